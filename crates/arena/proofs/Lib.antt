@@ -1,0 +1,3 @@
+pub mod Builds
+pub mod Reading
+pub mod Trees

@@ -1,0 +1,4 @@
+pub mod Items
+pub mod Picked
+pub mod Legal
+pub mod Making

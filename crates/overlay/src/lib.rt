@@ -1,0 +1,5 @@
+mod overlay;
+mod place;
+
+pub use overlay::Overlay;
+pub use overlay::OverlayStore;
