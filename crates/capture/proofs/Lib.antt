@@ -1,0 +1,4 @@
+pub mod Standing
+pub mod Children
+pub mod Loading
+pub mod Legal

@@ -1,0 +1,4 @@
+pub mod Events
+pub mod Records
+pub mod Places
+pub mod Captures

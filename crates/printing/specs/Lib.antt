@@ -1,0 +1,4 @@
+pub mod Items
+pub mod Outcomes
+pub mod Printed
+pub mod Writing

@@ -1,0 +1,7 @@
+mod items;
+mod output;
+mod scalars;
+mod text;
+
+pub use output::LAYER;
+pub use output::print;

@@ -1,0 +1,4 @@
+pub mod Performing
+pub mod Piles
+pub mod Probes
+pub mod Lines

@@ -1,0 +1,13 @@
+use crate::call::Call;
+use crate::call::CallDebug;
+use crate::call::CallPartialEq;
+
+/// What a line of a script says.
+#[derive(PartialEq, Eq, Debug, Drop)]
+pub enum Reading {
+    /// The line asks for nothing.
+    Silent,
+    /// The line is no call.
+    Malformed,
+    Call(Call),
+}
