@@ -6,7 +6,6 @@ ghost use Rattle.script.specs.Calls.{asked};
 ghost use Rattle.table.specs.Tables.{table-meaning};
 ghost use Rattle.probe.specs.Performing.{said};
 ghost use Rattle.probe.specs.Probes.{state, Obeys, Loads-capture, Loads-table, Opens, On-store};
-
 use crate::pile::Pile;
 use crate::probe::Probe;
 use capture::Capture;
@@ -35,7 +34,11 @@ impl Probe {
     {
         match call {
             Call::Capture(bytes) => self.load_capture(heap, bytes),
-            Call::Table { rows, children, text } => self.load_table(heap, rows, children, text),
+            Call::Table {
+                rows,
+                children,
+                text,
+            } => self.load_table(heap, rows, children, text),
             Call::Tray(allowances) => self.open_overlay(heap, *allowances),
             _ => self.perform_on_store(heap, call),
         }
@@ -59,7 +62,13 @@ impl Probe {
     }
 
     /// A table becomes the store; a refused one leaves it as it was.
-    fn load_table(self, heap: Global, rows: &[RawRow], children: &[u32], text: &[u8]) -> (Probe, Answer)
+    fn load_table(
+        self,
+        heap: Global,
+        rows: &[RawRow],
+        children: &[u32],
+        text: &[u8],
+    ) -> (Probe, Answer)
         ensures { λ r. ⌜ Loads-table (now (rows .entry)) (now (children .entry)) (now (text .entry)) (state self) (said (r .1)) (state (r .0)) ⌝ }
     {
         let Ok(mut numbers) = Vec::with_capacity(heap, 1) else {

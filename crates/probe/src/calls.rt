@@ -5,7 +5,6 @@ ghost use lib.ListN.{length};
 ghost use Rattle.std.specs.Of.Vec.{vec-items, vec-len, vec-cap};
 ghost use Rattle.script.specs.Calls.{asked, print};
 ghost use Rattle.probe.specs.Performing.{said, done, measures, handle-or-fault, Performs};
-
 use forest::Failure;
 use forest::Fault;
 use forest::Store;

@@ -7,7 +7,6 @@ ghost use Rattle.script.specs.Lines.{read-line};
 ghost use Rattle.probe.specs.Performing.{said};
 ghost use Rattle.probe.specs.Lines.{Answers, line-text};
 ghost use Rattle.probe.specs.Probes.{state};
-
 use crate::probe::Probe;
 use script::Answer;
 use script::Call;
@@ -26,7 +25,12 @@ fn written(heap: Global, number: u64, word: &[u8], answer: &Answer) -> Result<Ve
 
 impl Probe {
     /// Reads a line of a script, performs its call, and gives the text that answers it, if it is answered.
-    pub fn answer(self, heap: Global, number: u64, line: &[u8]) -> Result<(Probe, Option<Vec<u8>>), AllocError>
+    pub fn answer(
+        self,
+        heap: Global,
+        number: u64,
+        line: &[u8],
+    ) -> Result<(Probe, Option<Vec<u8>>), AllocError>
         ensures { λ r. ⌜ made r (λ p. Answers number (read-line (now (line .entry))) (state self) (mapped vec-items (p .1)) (state (p .0))) ⌝ }
     {
         match read_call(heap, line)? {

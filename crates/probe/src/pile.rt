@@ -8,7 +8,6 @@ ghost use Rattle.script.specs.Calls.{asked};
 ghost use Rattle.overlay.specs.Overlays.{opened};
 ghost use Rattle.probe.specs.Performing.{said, done, measures, Performs};
 ghost use Rattle.probe.specs.Piles.{pile-meaning, pile-layer};
-
 use crate::calls::answer_measures;
 use crate::calls::perform;
 use forest::Space;

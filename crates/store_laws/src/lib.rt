@@ -3,7 +3,6 @@ ghost use mathlib.Core.Bool.{true};
 ghost use Prim.Native.Nat.{ℕ};
 ghost use Rattle.std.specs.Results.{Cases};
 ghost use Rattle.store_laws.specs.Laws.{Both-stand};
-
 use forest::Fault;
 use forest::Kind;
 use forest::KindPartialEq;
