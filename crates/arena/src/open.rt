@@ -33,4 +33,11 @@ impl Arena {
             },
         })
     }
+
+    /// How many trees stand below.
+    pub fn base(&self) -> u32
+        ensures { λ r. ⌜ r ≡ now (self .entry) .base ⌝ }
+    {
+        self.base
+    }
 }

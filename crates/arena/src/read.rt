@@ -19,12 +19,6 @@ use forest::Space;
 
 /// Reading by handle, from `base` on, whatever `base` trees stand below.
 impl Arena {
-    pub fn base(&self) -> u32
-        ensures { λ r. ⌜ r ≡ now (self .entry) .base ⌝ }
-    {
-        self.base
-    }
-
     pub fn space(&self) -> Space
         ensures { λ r. ⌜ r ≡ now (self .entry) .space ⌝ }
     {

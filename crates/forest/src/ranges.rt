@@ -19,7 +19,7 @@ pub fn integer_in_range(value: i64) -> bool
 pub fn boolean_in_range(value: u32) -> bool
     ensures { λ r. ⌜ r ≡ leb value 1 ⌝ }
 {
-    value <= 1
+    value < 2
 }
 
 /// Whether an element may have this tag.

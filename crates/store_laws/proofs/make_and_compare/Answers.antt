@@ -18,4 +18,7 @@ returns-then-from-tag g c =
 
 pub returns : need.returns
 returns g c =
-    eq-eqb _ _ (c .child-count .ensures ∙ count-back (g .S·Store .layer) (g .S·Store .means (c .args .store .now)) (g .S·Store .means (c .make-element .last .self)) (c .args .tag) (c .args .children .now) (c .in-Continue-handle .handle) (c .in-Continue-handle .ensures tt))
+    let made = c .in-Continue-handle .ensures tt in (
+      eq-eqb _ _ (c .child-count .ensures ∙ count-back (g .S·Store .layer) (g .S·Store .means (c .args .store .now)) (g .S·Store .means (c .make-element .last .self)) (c .args .tag) (c .args .children .now) (c .in-Continue-handle .handle) made),
+      (c .in-Continue-handle .handle, made),
+    )
