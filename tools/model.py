@@ -38,6 +38,10 @@ def signed(word):
     return n
 
 
+def kind(word):
+    return number(word, 255)
+
+
 def hexbytes(word):
     if word == b"-":
         return b""
@@ -171,11 +175,136 @@ def render(store, handles, places):
     return bytes(out)
 
 
+class Rows:
+    """The tables of a session: type rows, expressions, arms, functions, text, and the query."""
+
+    def __init__(self):
+        self.types, self.expressions, self.arms, self.functions, self.text, self.query = [], [], [], [], b"", None
+        self.owned = set()
+
+    def add_text(self, data):
+        place = len(self.text)
+        if place + len(data) > 4096:
+            raise Refused(11, 1, place)
+        self.text += data
+        return [place]
+
+    def add_type(self, kind, a, b):
+        place = len(self.types)
+        if place >= 512:
+            raise Refused(11, 1, place)
+        parts = {8: [a, b], 9: [a, b], 10: [a]}.get(kind, [])
+        lawful = {6: 1 <= a <= 65535 and b < 512, 7: a == 0 and b < 512, 8: True, 9: True, 10: b == 0}.get(kind, 1 <= kind <= 5 and a == b == 0)
+        if not lawful or any(p >= place for p in parts):
+            raise Refused(12, 1, place)
+        if len(set(parts)) < len(parts) or any(p in self.owned for p in parts):
+            raise Refused(13, 1, place)
+        self.owned.update(parts)
+        self.types.append((kind, a, b))
+        return [place]
+
+    def add_function(self, parameter, result):
+        place = len(self.functions)
+        if place >= 32:
+            raise Refused(11, 1, place)
+        if max(parameter, result) >= 512:
+            raise Refused(12, 1, place)
+        self.functions.append([parameter, result, None])
+        return [place]
+
+    def add_arm(self, kind, tag, body):
+        place = len(self.arms)
+        if place >= 128:
+            raise Refused(11, 1, place)
+        lawful = 1 <= tag <= 65535 if kind == 6 else 3 <= kind <= 7 and tag == 0
+        if not lawful or body >= len(self.expressions):
+            raise Refused(12, 1, place)
+        self.arms.append((kind, tag, body))
+        return [place]
+
+    def add_expression(self, kind, a, b, c, d):
+        place = len(self.expressions)
+        if place >= 512:
+            raise Refused(11, 1, place)
+
+        def row(n):
+            return 0 <= n < place
+
+        def zero(*fields):
+            return not any(fields)
+
+        lawful = {
+            1: lambda: -10**12 <= a <= 10**12 and zero(b, c, d),
+            2: lambda: a in (0, 1) and zero(b, c, d),
+            3: lambda: a >= 0 and a + b <= len(self.text) and zero(c, d),
+            4: lambda: 0 <= a < 512 and zero(b, c, d),
+            5: lambda: 1 <= a <= 65535 and row(b) and zero(c, d),
+            6: lambda: row(a) and row(b) and zero(c, d),
+            7: lambda: zero(a, b, c, d),
+            8: lambda: row(a) and row(b) and row(c) and d == 0,
+            9: lambda: row(a) and row(b) and zero(c, d),
+            10: lambda: row(a) and row(b) and zero(c, d),
+            11: lambda: row(a) and row(c) and (b == 0 if d == 0 else b + d <= len(self.arms)),
+            12: lambda: 0 <= a < 32 and row(b) and zero(c, d),
+            13: lambda: zero(a, b, c, d),
+            14: lambda: row(a) and row(b) and zero(c, d),
+            15: lambda: row(a) and row(b) and zero(c, d),
+            16: lambda: row(a) and zero(b, c, d),
+            17: lambda: row(a) and zero(b, c, d),
+            18: lambda: row(a) and zero(b, c, d),
+            19: lambda: row(a) and b < 512 and zero(c, d),
+        }.get(kind, lambda: False)()
+        if not lawful:
+            raise Refused(12, 1, place)
+        self.expressions.append((kind, a, b, c, d))
+        return [place]
+
+    def set_body(self, function, row):
+        if function >= len(self.functions) or row >= len(self.expressions):
+            raise Refused(12, 1, 0)
+        self.functions[function][2] = row
+        return []
+
+    def set_query(self, kind, row):
+        if kind >= 512 or row >= len(self.expressions):
+            raise Refused(12, 1, 0)
+        self.query = (kind, row)
+        return []
+
+    def tags(self, places):
+        named = {a for kind, a, *_ in self.expressions if kind == 5} | {tag for kind, tag, _ in self.arms if kind == 6}
+        if places < len(named):
+            raise Refused(36, 1, 0)
+        return [len(named)] + sorted(named)
+
+
 class Session:
     def __init__(self):
-        self.store, self.height = Store(4, []), 0
+        self.store, self.height, self.rows = Store(4, []), 0, Rows()
+
+    def on_rows(self, word, args):
+        """A call on the tables of the session, or None where the word is another's."""
+        readers = {
+            b"text": [hexbytes], b"type": [kind, number, number], b"function": [number, number], b"arm": [kind, number, number],
+            b"expression": [kind, signed, number, number, number], b"body": [number, number], b"query": [number, number],
+            b"tags": [number], b"clear": [],
+        }.get(word)
+        if readers is None:
+            return None
+        if len(args) != len(readers):
+            raise Malformed
+        values = [reader(arg) for reader, arg in zip(readers, args)]
+        if word == b"clear":
+            self.rows = Rows()
+            return []
+        calls = {b"text": self.rows.add_text, b"type": self.rows.add_type, b"function": self.rows.add_function, b"arm": self.rows.add_arm,
+                 b"expression": self.rows.add_expression, b"body": self.rows.set_body, b"query": self.rows.set_query, b"tags": self.rows.tags}
+        return calls[word](*values)
 
     def perform(self, word, args):
+        answer = self.on_rows(word, args)
+        if answer is not None:
+            return answer
         if word in (b"capture", b"string", b"integer", b"boolean"):
             if len(args) != 1:
                 raise Malformed

@@ -5,6 +5,7 @@ use Prim.Native.Nat.{ℕ, zero, suc, _+_, _*_, _<_, _≤_}
 use native.Mathlib.Omega.{arith}
 use lib.ListN.{length, getD, length-map}
 use Rattle.std.proofs.shelf.Lists.{getD-map}
+use Rattle.forest.proofs.Items.{items-forest}
 use Rattle.forest.specs.Forests.{Item, scalar, element, items, forest}
 use Rattle.forest.specs.Stores.{item-children, children-at, Child}
 use Rattle.capture.specs.declared.event.Event.{Event as BusEvent}
@@ -15,12 +16,6 @@ use Rattle.capture.specs.declared.place.Place.the-variants.{Capture, Event, Pa
 use Rattle.capture.specs.Events.{event-tree, capture-trees}
 use Rattle.capture.specs.Places.{Placed}
 use Rattle.capture.proofs.Standing.{blank, read, reads, long, few-parts, at-event, at-part, at-value}
-
--- a forest's items are those that it was made of
-items-forest : (is : List Item) → items (forest is) ≡ is
-items-forest [] = refl
-items-forest (scalar s ∷ is) = ap (λ js. scalar s ∷ js) (items-forest is)
-items-forest (element t c ∷ is) = ap (λ js. element t c ∷ js) (items-forest is)
 
 pub event-count : (es : List BusEvent) → length (items (forest (map event-tree es))) ≡ length es
 event-count es = ap length (items-forest (map event-tree es)) ∙ length-map es event-tree

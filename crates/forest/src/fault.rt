@@ -4,6 +4,12 @@ ghost use Rattle.forest.specs.Faults.{number-of};
 /// Why a call is refused.
 #[derive(Clone, Copy, PartialEq, Eq, Debug)]
 pub enum Reason {
+    /// A table has no room for what is added.
+    TableFull,
+    /// A field out of its range, or one that names what is not there.
+    FieldOutOfRange,
+    /// A type part that another row owns, or that is named twice.
+    PartTaken,
     /// A handle that the store does not have.
     NoSuchHandle,
     /// More than 64 elements stand inside one another.
@@ -26,6 +32,9 @@ impl Reason {
         ensures { λ r. ⌜ r ≡ number-of self ⌝ }
     {
         match self {
+            Reason::TableFull => 11,
+            Reason::FieldOutOfRange => 12,
+            Reason::PartTaken => 13,
             Reason::NoSuchHandle => 33,
             Reason::NestedTooDeep => 34,
             Reason::BufferShort => 36,

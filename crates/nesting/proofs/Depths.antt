@@ -8,6 +8,7 @@ use lib.Dec.{ltb}
 use lib.ListN.{length, getD, set, drop, replicate}
 use Rattle.std.proofs.shelf.Tests.{lt-ltb}
 use Rattle.std.proofs.shelf.Lists.{length-set, length-replicate, drop-more, drop-all}
+use Rattle.forest.proofs.Items.{forest-items}
 use Rattle.forest.specs.Forests.{Scalar, integer, string, boolean, Forest, none, leaf, node, Item, scalar, element, items, before, forest, depth}
 use Rattle.forest.specs.declared.kind.Kind.the-variants.{Element}
 use Rattle.forest.specs.Stores.{nothing, picked, children-at, kind-at, item-kind}
@@ -16,11 +17,6 @@ use Rattle.nesting.specs.Levels.{item-depth, deepest, marked}
 pub depth-before : (i : Item) (f : Forest) → depth (before i f) ≡ max (item-depth i) (depth f)
 depth-before (scalar s) f = omega arith
 depth-before (element t c) f = refl
-
-forest-items : (f : Forest) → forest (items f) ≡ f
-forest-items none = refl
-forest-items (leaf s f) = ap (leaf s) (forest-items f)
-forest-items (node t c f) = ap (node t c) (forest-items f)
 
 -- one mark more
 mark-more : (m : Bool) (d : ℕ) → max (cond m d 0) d ≡ d

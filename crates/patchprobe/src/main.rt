@@ -1,6 +1,8 @@
 //! Reads a script from standard input, a call to a line, and writes an answer to each. A capture file may be named on the command line.
+use answers::Answer;
+use console::answer_line;
 use probe::Probe;
-use script::Answer;
+use session::Session;
 use std::alloc::Global;
 use std::env;
 use std::error::AnyError;
@@ -26,10 +28,18 @@ fn capture_name(rt: &LibcRuntime) -> Result<Option<String>, AnyError> {
     let mut arguments = env::args(rt)?;
     let _program = arguments.next();
     let name = arguments.next();
-    if arguments.next().is_some() {
+    if arguments.next().is_some() || is_option(&name) {
         return Err("usage: patchprobe [CAPTURE-FILE] < SCRIPT".into());
     }
     Ok(name)
+}
+
+/// Whether a word is written as an option. There are none.
+fn is_option(word: &Option<String>) -> bool {
+    match word {
+        Some(text) => text.as_str().starts_with('-'),
+        None => false,
+    }
 }
 
 /// The probe to begin with: over the capture in the file of that name, or over the empty table.
@@ -40,7 +50,9 @@ fn begin(rt: &LibcRuntime, heap: Global, name: Option<String>) -> Result<Probe, 
     let Some(name) = name else {
         return Ok(probe);
     };
-    let bytes = fs::read(rt, name.as_str())?;
+    let Ok(bytes) = fs::read(rt, name.as_str()) else {
+        return Err(format!(heap, "{name}: cannot be read")?.into());
+    };
     let (probe, answer) = probe.load_capture(heap, &bytes);
     loaded(heap, name.as_str(), answer)?;
     Ok(probe)
@@ -49,13 +61,12 @@ fn begin(rt: &LibcRuntime, heap: Global, name: Option<String>) -> Result<Probe, 
 /// An error where the capture file was not loaded.
 fn loaded(heap: Global, name: &str, answer: Answer) -> Result<(), AnyError> {
     match answer {
-        Answer::Done(_) => Ok(()),
+        Answer::Number(_) => Ok(()),
         Answer::Refused(fault) => {
+            let number = fault.reason.number();
+            let layer = fault.layer;
             let event = fault.row;
-            Err(format!(
-                heap,
-                "{name}: refused 54 5 {event}: event {event} is unlawful"
-            )?.into())
+            Err(format!(heap, "{name}: refused {number} {layer} {event}")?.into())
         }
         _ => Err("memory is short".into()),
     }
@@ -66,16 +77,23 @@ fn converse(rt: &LibcRuntime, start: Probe) -> Result<(), AnyError> {
     let mut input = BufReader::new(rt.stdin());
     let mut output = BufWriter::new(rt.stdout());
     let mut line = Vec::new(rt.alloc());
+    let mut session = Session::new();
     let mut probe = start;
     for number in 1..u64::MAX {
         line.clear();
         if input.read_until(b'\n', &mut line)? == 0 {
             break;
         }
-        let (next, answer) = probe.answer(rt.alloc(), number, without_line_feed(&line))?;
+        let (next, answer) = answer_line(
+            rt.alloc(),
+            &mut session,
+            probe,
+            number,
+            without_line_feed(&line),
+        )?;
         probe = next;
         write_line(&mut output, answer)?;
-        if input.buffer().is_empty() {
+        if !input.buffer().contains(&b'\n') {
             output.flush()?;
         }
     }

@@ -1,4 +1,3 @@
 pub mod Performing
 pub mod Piles
 pub mod Probes
-pub mod Lines

@@ -16,10 +16,11 @@ use Rattle.capture.specs.Captures.{meaning}
 use Rattle.capture.specs.Events.{meaning-of}
 use Rattle.capture.specs.Records.{AllLawful, FirstUnlawful, events-of}
 use Rattle.overlay.specs.Overlays.{opened}
-use Rattle.script.specs.Calls.{Asked, capture, table, tray, space, integer, boolean, string, element, print}
+use Rattle.script.specs.Calls.{StoreAsked, capture, table, tray, space, integer, boolean, string, element, print}
 use Rattle.probe.specs.declared.probe.Probe.{Probe}
 use Rattle.probe.specs.declared.probe.Probe.the-variants.{OfTable, OfCapture}
-use Rattle.probe.specs.Performing.{Said, done, text, refused, malformed, unsupported, measures, Performs}
+use Rattle.answers.specs.Answers.{Said, done, text, refused, malformed, unsupported}
+use Rattle.probe.specs.Performing.{measures, Performs}
 use Rattle.probe.specs.Piles.{pile-meaning, pile-layer}
 
 -- The current store, by the layer that it names and what it means.
@@ -63,11 +64,11 @@ Opens s before (refused f) after = ⊥
 Opens s before (text t) after = ⊥
 Opens s before malformed after = ⊥
 
-abbrev pub On-store : Asked → State → Said → State → Type 0
+abbrev pub On-store : StoreAsked → State → Said → State → Type 0
 On-store a before s after = Performs (before .layer) a (before .meaning) s (after .meaning) × (after .layer ≡ before .layer)
 
 -- How a call is answered, and what the store is then.
-abbrev pub Obeys : Asked → State → Said → State → Type 0
+abbrev pub Obeys : StoreAsked → State → Said → State → Type 0
 Obeys (capture bs) before s after = Loads-capture bs before s after
 Obeys (table rs es bs) before s after = Loads-table rs es bs before s after
 Obeys (tray limits) before s after = Opens limits before s after

@@ -1,21 +1,18 @@
 ghost use mathlib.Core.Path.{_≡_};
-ghost use mathlib.Core.List.{[]};
-ghost use Prim.Native.Nat.{_≤_};
 ghost use lib.ListN.{length};
-ghost use Rattle.std.specs.Of.Vec.{vec-items, vec-cap};
 ghost use Rattle.std.specs.Results.{Cases};
-ghost use Rattle.script.specs.Calls.{asked};
+ghost use Rattle.script.specs.Calls.{asked-store};
 ghost use Rattle.overlay.specs.Overlays.{opened};
-ghost use Rattle.probe.specs.Performing.{said, done, measures, Performs};
+ghost use Rattle.answers.specs.Answers.{said, done};
+ghost use Rattle.probe.specs.Performing.{measures, Performs};
 ghost use Rattle.probe.specs.Piles.{pile-meaning, pile-layer};
-use crate::calls::answer_measures;
 use crate::calls::perform;
+use answers::Answer;
 use forest::Space;
 use forest::Store;
 use overlay::Overlay;
 use overlay::OverlayStore;
-use script::Answer;
-use script::Call;
+use script::StoreCall;
 use std::alloc::Global;
 
 /// A store with up to four overlays, one over the other.
@@ -30,8 +27,8 @@ pub enum Pile<S: Store + Drop> {
 
 impl<S: Store + Drop> Pile<S> {
     /// Performs a call on what stands on top.
-    pub fn perform(&mut self, heap: Global, call: &Call) -> Answer
-        ensures answer { λ r. ⌜ Performs (pile-layer (S·Store .layer) (now (self .entry))) (asked (now (call .entry))) (pile-meaning (S·Store .means) (now (self .entry))) (said r) (pile-meaning (S·Store .means) (now (self .exit))) ⌝ }
+    pub fn perform(&mut self, heap: Global, call: &StoreCall) -> Answer
+        ensures answer { λ r. ⌜ Performs (pile-layer (S·Store .layer) (now (self .entry))) (asked-store (now (call .entry))) (pile-meaning (S·Store .means) (now (self .entry))) (said r) (pile-meaning (S·Store .means) (now (self .exit))) ⌝ }
         ensures layer { λ _. ⌜ pile-layer (S·Store .layer) (now (self .exit)) ≡ pile-layer (S·Store .layer) (now (self .entry)) ⌝ }
     {
         match self {
@@ -43,18 +40,16 @@ impl<S: Store + Drop> Pile<S> {
         }
     }
 
-    /// The measures of what stands on top, into a list that has room for them.
-    pub(crate) fn measures(&self, numbers: Vec<u32>) -> Answer
-        requires empty { ⌜ vec-items numbers ≡ [] ⌝ }
-        requires room { ⌜ 4 ≤ vec-cap numbers ⌝ }
+    /// The measures of what stands on top.
+    pub(crate) fn measures(&self) -> Answer
         ensures { λ r. ⌜ said r ≡ done (measures (pile-meaning (S·Store .means) (now (self .entry)))) ⌝ }
     {
         match self {
-            Pile::Bare(store) => answer_measures(numbers, store),
-            Pile::One(store) => answer_measures(numbers, store),
-            Pile::Two(store) => answer_measures(numbers, store),
-            Pile::Three(store) => answer_measures(numbers, store),
-            Pile::Four(store) => answer_measures(numbers, store),
+            Pile::Bare(store) => measures_of(store),
+            Pile::One(store) => measures_of(store),
+            Pile::Two(store) => measures_of(store),
+            Pile::Three(store) => measures_of(store),
+            Pile::Four(store) => measures_of(store),
         }
     }
 
@@ -81,5 +76,15 @@ impl<S: Store + Drop> Pile<S> {
             },
             Pile::Four(store) => Err(Pile::Four(store)),
         }
+    }
+}
+
+/// The number of trees of a store, and its space.
+fn measures_of<S: Store>(store: &S) -> Answer
+    ensures { λ r. ⌜ said r ≡ done (measures (S·Store .means (now (store .entry)))) ⌝ }
+{
+    Answer::Measures {
+        count: store.count(),
+        space: store.space(),
     }
 }

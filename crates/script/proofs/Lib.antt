@@ -1,6 +1,1 @@
-pub mod Digits
-pub mod Pairs
-pub mod Cuts
-pub mod Counts
-pub mod Spaces
 pub mod Names

@@ -1,107 +1,94 @@
--- The calls of a script and how a line writes them.
-use mathlib.Core.List.{List, [], _∷_}
-use mathlib.Core.Bool.{cond}
+-- The calls of a script and their words.
+use mathlib.Core.List.{List}
 use Prim.Native.Nat.{ℕ}
-use Prim.Native.String.{String}
 use lib.Chars.{codes}
 use lib.IntN.{ℤ}
 use Rattle.std.specs.Of.Vec.{vec-items}
-use Rattle.std.specs.Options.{mapped}
-use Rattle.std.specs.declared.option.Option.{Option}
-use Rattle.std.specs.declared.option.Option.the-variants.{Some, None}
-use Rattle.std.specs.shelf.Text.{sameBytes}
 use Rattle.forest.specs.declared.space.Space.{Space}
 use Rattle.table.specs.declared.row.RawRow.{RawRow}
+use Rattle.script.specs.declared.call.StoreCall.{StoreCall}
+use Rattle.script.specs.declared.call.StoreCall.the-variants.{Capture, Table, Tray, Space as SpaceLeft, Integer, Boolean, String, Element, Print}
+use Rattle.script.specs.declared.call.SessionCall.{SessionCall}
+use Rattle.script.specs.declared.call.SessionCall.the-variants.{Text, «Type» as TypeRow, Function, Arm, Expression, Body, Query, Tags, Clear}
 use Rattle.script.specs.declared.call.Call.{Call}
-use Rattle.script.specs.declared.call.Call.the-variants.{Capture, Table, Tray, Space as SpaceLeft, Integer, Boolean, String as StringCall, Element, Print}
-use Rattle.script.specs.Bytes.{bytes-of}
-use Rattle.script.specs.Lists.{pieces, each, or-none}
-use Rattle.script.specs.Numbers.{number, signed-number}
-use Rattle.script.specs.Words.{Reader, quintuple, given, none, one, three, one-then}
+use Rattle.script.specs.declared.call.Call.the-variants.{Store, Session}
+
+-- What a line asks of a store.
+pub data StoreAsked : Type 0 where
+  capture : List ℕ → StoreAsked
+  table : List RawRow → List ℕ → List ℕ → StoreAsked
+  tray : Space → StoreAsked
+  space : StoreAsked
+  integer : ℤ → StoreAsked
+  boolean : ℕ → StoreAsked
+  string : List ℕ → StoreAsked
+  element : ℕ → List ℕ → StoreAsked
+  print : ℕ → List ℕ → StoreAsked
+
+-- What a line asks of a session.
+pub data SessionAsked : Type 0 where
+  text : List ℕ → SessionAsked
+  type arm : ℕ → ℕ → ℕ → SessionAsked
+  function body query : ℕ → ℕ → SessionAsked
+  expression : ℕ → ℤ → ℕ → ℕ → ℕ → SessionAsked
+  tags : ℕ → SessionAsked
+  clear : SessionAsked
 
 -- What a line asks for.
 pub data Asked : Type 0 where
-  capture : List ℕ → Asked
-  table : List RawRow → List ℕ → List ℕ → Asked
-  tray : Space → Asked
-  space : Asked
-  integer : ℤ → Asked
-  boolean : ℕ → Asked
-  string : List ℕ → Asked
-  element : ℕ → List ℕ → Asked
-  print : ℕ → List ℕ → Asked
+  on-store : StoreAsked → Asked
+  on-session : SessionAsked → Asked
+
+abbrev pub asked-store : StoreCall → StoreAsked
+asked-store (Capture bytes) = capture (vec-items bytes)
+asked-store (Table rows children bytes) = table (vec-items rows) (vec-items children) (vec-items bytes)
+asked-store (Tray limits) = tray limits
+asked-store SpaceLeft = space
+asked-store (Integer value) = integer value
+asked-store (Boolean value) = boolean value
+asked-store (String bytes) = string (vec-items bytes)
+asked-store (Element tag children) = element tag (vec-items children)
+asked-store (Print places handles) = print places (vec-items handles)
+
+abbrev pub asked-session : SessionCall → SessionAsked
+asked-session (Text bytes) = text (vec-items bytes)
+asked-session (TypeRow kind a b) = type kind a b
+asked-session (Function parameter result) = function parameter result
+asked-session (Arm kind tag row) = arm kind tag row
+asked-session (Expression kind a b c d) = expression kind a b c d
+asked-session (Body owner row) = body owner row
+asked-session (Query input row) = query input row
+asked-session (Tags places) = tags places
+asked-session Clear = clear
 
 abbrev pub asked : Call → Asked
-asked (Capture bytes) = capture (vec-items bytes)
-asked (Table rows children text) = table (vec-items rows) (vec-items children) (vec-items text)
-asked (Tray limits) = tray limits
-asked SpaceLeft = space
-asked (Integer value) = integer value
-asked (Boolean value) = boolean value
-asked (StringCall bytes) = string (vec-items bytes)
-asked (Element tag children) = element tag (vec-items children)
-asked (Print places handles) = print places (vec-items handles)
-
--- How what a call takes is written.
-
-abbrev pub number32 : Reader ℕ
-number32 = number 4294967295
-
--- numbers joined by `,`
-abbrev pub numbers-of : Reader (List ℕ)
-numbers-of = or-none (λ word. each number32 (pieces 44 word))
-
--- `kind,tag,from,length,value`
-abbrev pub row-fields : List ℕ × List ℕ × List ℕ × List ℕ × List ℕ → Option RawRow
-row-fields w =
-    given (number 255 (w .0)) (λ k. given (number32 (w .1)) (λ t. given (number32 (w .2)) (λ f. given (number32 (w .3)) (λ l.
-    mapped (λ v. record { kind = k; tag = t; from = f; length = l; value = v }) (signed-number (w .4))))))
-
-abbrev pub row-of : Reader RawRow
-row-of word = given (quintuple (pieces 44 word)) row-fields
-
--- rows joined by `;`
-abbrev pub rows-of : Reader (List RawRow)
-rows-of = or-none (λ word. each row-of (pieces 59 word))
-
--- A call's word, and how the words after it are read.
-pub record Form : Type 0 where
-  pub word : List ℕ
-  pub reads : List (List ℕ) → Option Asked
-
-abbrev pub form : String → (List (List ℕ) → Option Asked) → Form
-form name reader = record { word = codes name; reads = reader }
-
--- The calls.
-abbrev pub forms : List Form
-forms =
-    form "capture" (one bytes-of capture)
-    ∷ form "table" (three rows-of numbers-of bytes-of table)
-    ∷ form "tray" (three number32 number32 number32 (λ t c b. tray (record { trees = t; children = c; bytes = b })))
-    ∷ form "space" (none space)
-    ∷ form "integer" (one signed-number integer)
-    ∷ form "boolean" (one number32 boolean)
-    ∷ form "string" (one bytes-of string)
-    ∷ form "element" (one-then number32 number32 element)
-    ∷ form "print" (one-then number32 number32 print)
-    ∷ []
-
-abbrev pub look-up : List Form → List ℕ → List (List ℕ) → Option Asked
-look-up [] name words = None
-look-up (f ∷ fs) name words = cond (sameBytes name (f .word)) (f .reads words) (look-up fs name words)
-
--- what words after a call's word ask for
-abbrev pub call-of : List ℕ → List (List ℕ) → Option Asked
-call-of name words = look-up forms name words
+asked (Store call) = on-store (asked-store call)
+asked (Session call) = on-session (asked-session call)
 
 -- The word of a call.
+
+abbrev pub store-word : StoreAsked → List ℕ
+store-word (capture bytes) = codes "capture"
+store-word (table rows children bytes) = codes "table"
+store-word (tray limits) = codes "tray"
+store-word space = codes "space"
+store-word (integer value) = codes "integer"
+store-word (boolean value) = codes "boolean"
+store-word (string bytes) = codes "string"
+store-word (element tag children) = codes "element"
+store-word (print places handles) = codes "print"
+
+abbrev pub session-word : SessionAsked → List ℕ
+session-word (text bytes) = codes "text"
+session-word (type kind a b) = codes "type"
+session-word (function parameter result) = codes "function"
+session-word (arm kind tag row) = codes "arm"
+session-word (expression kind a b c d) = codes "expression"
+session-word (body owner row) = codes "body"
+session-word (query input row) = codes "query"
+session-word (tags places) = codes "tags"
+session-word clear = codes "clear"
+
 abbrev pub word-of : Asked → List ℕ
-word-of (capture bytes) = codes "capture"
-word-of (table rows children text) = codes "table"
-word-of (tray limits) = codes "tray"
-word-of space = codes "space"
-word-of (integer value) = codes "integer"
-word-of (boolean value) = codes "boolean"
-word-of (string bytes) = codes "string"
-word-of (element tag children) = codes "element"
-word-of (print places handles) = codes "print"
+word-of (on-store a) = store-word a
+word-of (on-session a) = session-word a

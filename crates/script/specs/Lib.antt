@@ -1,7 +1,4 @@
-pub mod Lists
-pub mod Numbers
-pub mod Bytes
-pub mod Words
 pub mod Calls
+pub mod Patterns
+pub mod Forms
 pub mod Lines
-pub mod Answers

@@ -9,9 +9,10 @@ use Rattle.std.specs.declared.option.Option.{Option}
 use Rattle.std.specs.declared.option.Option.the-variants.{Some, None}
 use Rattle.script.specs.declared.reading.Reading.{Reading}
 use Rattle.script.specs.declared.reading.Reading.the-variants.{Silent, Malformed, Call}
-use Rattle.script.specs.Calls.{Asked, asked, call-of, word-of}
-use Rattle.script.specs.Lists.{pieces}
-use Rattle.script.specs.Words.{first, given}
+use Rattle.script.specs.Calls.{Asked, asked, word-of}
+use Rattle.script.specs.Forms.{call-of}
+use Rattle.fields.specs.Lists.{pieces}
+use Rattle.fields.specs.Words.{first, given}
 
 pub data Line : Type 0 where
   silent malformed : Line

@@ -2,20 +2,23 @@ ghost use mathlib.Core.Path.{_≡_};
 ghost use lib.Chars.{codes};
 ghost use Rattle.std.specs.Options.{mapped};
 ghost use Rattle.std.specs.Vec.{made};
-ghost use Rattle.script.specs.Calls.{asked, call-of};
-ghost use Rattle.script.specs.Lists.{texts};
-use crate::bytes::read_bytes;
+ghost use Rattle.fields.specs.Lists.{texts};
+ghost use Rattle.script.specs.Calls.{asked};
+ghost use Rattle.script.specs.Forms.{call-of};
 use crate::call::Call;
-use crate::lists::read_number_list;
-use crate::lists::read_numbers;
-use crate::lists::read_row_list;
-use crate::numbers::read_i64;
-use crate::numbers::read_u32;
-use crate::words::first_word;
-use crate::words::no_words;
-use crate::words::only_word;
-use crate::words::same_word;
-use crate::words::three_words;
+use crate::call::StoreCall;
+use crate::session_forms::read_session_form;
+use fields::first_word;
+use fields::no_words;
+use fields::only_word;
+use fields::read_bytes;
+use fields::read_i64;
+use fields::read_number_list;
+use fields::read_numbers;
+use fields::read_row_list;
+use fields::read_u32;
+use fields::same_word;
+use fields::three_words;
 use forest::Space;
 use std::alloc::AllocError;
 use std::alloc::Global;
@@ -28,7 +31,7 @@ fn read_capture(heap: Global, words: &[&[u8]]) -> Result<Option<Call>, AllocErro
         return Ok(None);
     };
     match read_bytes(heap, word)? {
-        Some(bytes) => Ok(Some(Call::Capture(bytes))),
+        Some(bytes) => Ok(Some(Call::Store(StoreCall::Capture(bytes)))),
         None => Ok(None),
     }
 }
@@ -47,11 +50,11 @@ fn read_table(heap: Global, words: &[&[u8]]) -> Result<Option<Call>, AllocError>
         return Ok(None);
     };
     match read_bytes(heap, text)? {
-        Some(text) => Ok(Some(Call::Table {
+        Some(text) => Ok(Some(Call::Store(StoreCall::Table {
             rows,
             children,
             text,
-        })),
+        }))),
         None => Ok(None),
     }
 }
@@ -64,11 +67,11 @@ fn read_tray(words: &[&[u8]]) -> Option<Call>
     let trees = read_u32(trees)?;
     let children = read_u32(children)?;
     let bytes = read_u32(bytes)?;
-    Some(Call::Tray(Space {
+    Some(Call::Store(StoreCall::Tray(Space {
         trees,
         children,
         bytes,
-    }))
+    })))
 }
 
 /// `space`
@@ -76,7 +79,7 @@ fn read_space(words: &[&[u8]]) -> Option<Call>
     ensures { λ r. ⌜ mapped asked r ≡ call-of (codes "space") (texts (now (words .entry))) ⌝ }
 {
     if no_words(words) {
-        Some(Call::Space)
+        Some(Call::Store(StoreCall::Space))
     } else {
         None
     }
@@ -87,7 +90,7 @@ fn read_integer(words: &[&[u8]]) -> Option<Call>
     ensures { λ r. ⌜ mapped asked r ≡ call-of (codes "integer") (texts (now (words .entry))) ⌝ }
 {
     let word = only_word(words)?;
-    Some(Call::Integer(read_i64(word)?))
+    Some(Call::Store(StoreCall::Integer(read_i64(word)?)))
 }
 
 /// `boolean VALUE`
@@ -95,7 +98,7 @@ fn read_boolean(words: &[&[u8]]) -> Option<Call>
     ensures { λ r. ⌜ mapped asked r ≡ call-of (codes "boolean") (texts (now (words .entry))) ⌝ }
 {
     let word = only_word(words)?;
-    Some(Call::Boolean(read_u32(word)?))
+    Some(Call::Store(StoreCall::Boolean(read_u32(word)?)))
 }
 
 /// `string BYTES`
@@ -106,7 +109,7 @@ fn read_string(heap: Global, words: &[&[u8]]) -> Result<Option<Call>, AllocError
         return Ok(None);
     };
     match read_bytes(heap, word)? {
-        Some(bytes) => Ok(Some(Call::String(bytes))),
+        Some(bytes) => Ok(Some(Call::Store(StoreCall::String(bytes)))),
         None => Ok(None),
     }
 }
@@ -122,7 +125,7 @@ fn read_element(heap: Global, words: &[&[u8]]) -> Result<Option<Call>, AllocErro
         return Ok(None);
     };
     match read_numbers(heap, handles)? {
-        Some(children) => Ok(Some(Call::Element { tag, children })),
+        Some(children) => Ok(Some(Call::Store(StoreCall::Element { tag, children }))),
         None => Ok(None),
     }
 }
@@ -138,13 +141,17 @@ fn read_print(heap: Global, words: &[&[u8]]) -> Result<Option<Call>, AllocError>
         return Ok(None);
     };
     match read_numbers(heap, handles)? {
-        Some(handles) => Ok(Some(Call::Print { places, handles })),
+        Some(handles) => Ok(Some(Call::Store(StoreCall::Print { places, handles }))),
         None => Ok(None),
     }
 }
 
 /// The call that a word and the words after it stand for.
-pub fn read_form(heap: Global, name: &[u8], words: &[&[u8]]) -> Result<Option<Call>, AllocError>
+pub(crate) fn read_form(
+    heap: Global,
+    name: &[u8],
+    words: &[&[u8]],
+) -> Result<Option<Call>, AllocError>
     ensures { λ r. ⌜ made r (λ o. mapped asked o ≡ call-of (now (name .entry)) (texts (now (words .entry)))) ⌝ }
 {
     if same_word(name, b"capture") {
@@ -166,6 +173,6 @@ pub fn read_form(heap: Global, name: &[u8], words: &[&[u8]]) -> Result<Option<Ca
     } else if same_word(name, b"print") {
         read_print(heap, words)
     } else {
-        Ok(None)
+        read_session_form(heap, name, words)
     }
 }

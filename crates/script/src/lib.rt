@@ -1,23 +1,15 @@
-mod answer;
-mod bytes;
 mod call;
 mod forms;
 mod line;
-mod lists;
-mod numbers;
-mod pieces;
 mod reading;
-mod words;
-mod writer;
+mod session_forms;
 
-pub use answer::Answer;
-pub use answer::AnswerDebug;
-pub use answer::AnswerPartialEq;
 pub use call::Call;
-pub use call::CallDebug;
 pub use call::CallPartialEq;
+pub use call::SessionCall;
+pub use call::SessionCallPartialEq;
+pub use call::StoreCall;
+pub use call::StoreCallPartialEq;
 pub use line::read_call;
 pub use reading::Reading;
-pub use reading::ReadingDebug;
 pub use reading::ReadingPartialEq;
-pub use writer::write_answer;

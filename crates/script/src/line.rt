@@ -5,9 +5,9 @@ ghost use Rattle.script.specs.Calls.{asked};
 ghost use Rattle.script.specs.Lines.{meaning-of, call-in, read-line, Named};
 use crate::call::Call;
 use crate::forms::read_form;
-use crate::pieces::split;
 use crate::reading::Reading;
-use crate::words::first_word;
+use fields::first_word;
+use fields::split;
 use std::alloc::AllocError;
 use std::alloc::Global;
 

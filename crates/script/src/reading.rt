@@ -1,9 +1,8 @@
 use crate::call::Call;
-use crate::call::CallDebug;
 use crate::call::CallPartialEq;
 
 /// What a line of a script says.
-#[derive(PartialEq, Eq, Debug, Drop)]
+#[derive(PartialEq, Eq, Drop)]
 pub enum Reading {
     /// The line asks for nothing.
     Silent,

@@ -18,7 +18,8 @@ pub fn make_two<S: Store>(store: &mut S, first: i64, second: i64) -> Result<(u32
     Ok((one, two))
 }
 
-/// Makes an element in any store and reads it back: what was read is what was asked for, so the answer is never false.
+/// Makes an element in any store and reads it back: its kind, its tag and its number of children are those asked for, so the answer is
+/// never false.
 pub fn make_and_compare<S: Store>(store: &mut S, tag: u32, children: &[u32]) -> Result<bool, Fault>
     ensures { λ r. ⌜ Cases r (λ same. (same ≡ true) × ((h : ℕ) × Made-element (S·Store .layer) (S·Store .means (now (store .entry))) tag (now (children .entry)) (Ok h) (S·Store .means (now (store .exit))))) (λ f. Made-element (S·Store .layer) (S·Store .means (now (store .entry))) tag (now (children .entry)) (Err f) (S·Store .means (now (store .exit)))) ⌝ }
 {

@@ -14,14 +14,15 @@ ghost use Rattle.arena.specs.Arenas.{means-over};
 ghost use Rattle.table.specs.Tables.{refusal, table-meaning, Fails};
 ghost use Rattle.table.specs.Filling.{Prepared, Took, Full, Stopped};
 use crate::row::RawRow;
-use crate::table::TABLE;
 use crate::table::Table;
+use crate::table::TableStore;
 use arena::Arena;
 use forest::Failure;
 use forest::FailureFromAlloc;
 use forest::Fault;
 use forest::Reason;
 use forest::Space;
+use forest::Store;
 use std::alloc::AllocError;
 use std::alloc::Global;
 
@@ -54,7 +55,7 @@ fn unlawful(row: u32) -> Failure
 {
     Failure::Refused(Fault {
         reason: Reason::UnlawfulTable,
-        layer: TABLE,
+        layer: TableStore::LAYER,
         row,
     })
 }

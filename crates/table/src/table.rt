@@ -7,8 +7,6 @@ use forest::Kind;
 use forest::Space;
 use forest::Store;
 
-pub(crate) const TABLE: u8 = 4;
-
 /// A store of trees given row by row. It takes no more.
 #[derive(Drop)]
 pub struct Table {
@@ -17,14 +15,14 @@ pub struct Table {
 }
 
 pub impl Store for Table as TableStore {
-    const LAYER: u8 = TABLE;
+    const LAYER: u8 = 4;
 
     ghost layer = { 4 };
 
     ghost means = { λ t. means-over [] (t .own) };
 
     fn layer_number() -> u8 {
-        TABLE
+        Self::LAYER
     }
 
     fn count(&self) -> u32 {

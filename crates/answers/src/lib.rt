@@ -1,0 +1,5 @@
+mod answer;
+mod writer;
+
+pub use answer::Answer;
+pub use writer::write_answer;

@@ -1,0 +1,2 @@
+pub mod OnSession
+pub mod Lines

@@ -1,0 +1,21 @@
+mod bytes;
+mod lists;
+mod numbers;
+mod pieces;
+mod words;
+
+pub use bytes::read_bytes;
+pub use lists::read_number_list;
+pub use lists::read_numbers;
+pub use lists::read_row_list;
+pub use numbers::read_i64;
+pub use numbers::read_u8;
+pub use numbers::read_u32;
+pub use pieces::split;
+pub use words::first_word;
+pub use words::five_words;
+pub use words::no_words;
+pub use words::only_word;
+pub use words::same_word;
+pub use words::three_words;
+pub use words::two_words;

@@ -1,0 +1,5 @@
+mod call;
+mod calls;
+
+pub use call::Call;
+pub use calls::replay;

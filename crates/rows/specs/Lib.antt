@@ -1,0 +1,4 @@
+pub mod TypeRows
+pub mod Expressions
+pub mod Arms
+pub mod Functions
