@@ -55,7 +55,7 @@ Not-short (text bs) = Unit {0}
 Not-short malformed = Unit {0}
 Not-short unsupported = Unit {0}
 
--- Only printing needs memory.
+-- Of the calls on a store only printing needs memory. (Loading and opening are not calls on a store.)
 abbrev pub May-lack-memory : StoreAsked → Type 0
 May-lack-memory (capture bs) = Unit {0}
 May-lack-memory (table rs es bs) = Unit {0}
