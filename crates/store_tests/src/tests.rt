@@ -1,0 +1,6 @@
+mod captures;
+mod making;
+mod overlays;
+mod prints;
+mod reading;
+mod tables;
