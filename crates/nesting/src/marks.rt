@@ -8,7 +8,7 @@ ghost use Rattle.nesting.specs.Levels.{deepest, marked};
 use forest::Store;
 
 /// Marks one handle; one past the end is left out.
-pub fn mark(marks: &mut [bool], handle: u32)
+pub(crate) fn mark(marks: &mut [bool], handle: u32)
     ensures { λ _. ⌜ now (marks .exit) ≡ set (now (marks .entry)) handle true ⌝ }
 {
     let place = handle as usize;
@@ -18,7 +18,7 @@ pub fn mark(marks: &mut [bool], handle: u32)
 }
 
 /// Marks each of the handles.
-pub fn mark_all(marks: &mut [bool], handles: &[u32])
+pub(crate) fn mark_all(marks: &mut [bool], handles: &[u32])
     ensures { λ _. ⌜ now (marks .exit) ≡ marked (now (marks .entry)) (now (handles .entry)) ⌝ }
 {
     for handle in handles {
@@ -27,7 +27,7 @@ pub fn mark_all(marks: &mut [bool], handles: &[u32])
 }
 
 /// Marks the children of one handle.
-pub fn mark_children<S: Store>(store: &S, handle: u32, marks: &mut [bool])
+pub(crate) fn mark_children<S: Store>(store: &S, handle: u32, marks: &mut [bool])
     requires { ⌜ length (now marks) ≡ length (S·Store .means (now store) .trees) ⌝ }
     ensures { λ _. ⌜ deepest (S·Store .means (now (store .entry)) .trees) (now (marks .exit)) ≡ max (deepest (S·Store .means (now (store .entry)) .trees) (now (marks .entry))) (depth (forest (children-at (S·Store .means (now (store .entry)) .trees) handle))) ⌝ }
 {

@@ -7,7 +7,7 @@ use crate::text::Text;
 use std::alloc::AllocError;
 
 /// Writes a number in decimal.
-pub fn write_decimal(text: &mut Text, number: u64) -> Result<(), AllocError>
+pub(crate) fn write_decimal(text: &mut Text, number: u64) -> Result<(), AllocError>
     ensures { λ r. ⌜ Writes r (now (text .entry)) (now (text .exit)) (decimal number) ⌝ }
 {
     if number >= 10 {
@@ -17,7 +17,7 @@ pub fn write_decimal(text: &mut Text, number: u64) -> Result<(), AllocError>
 }
 
 /// Writes a number in decimal, with a minus sign if it is negative.
-pub fn write_integer(text: &mut Text, value: i64) -> Result<(), AllocError>
+pub(crate) fn write_integer(text: &mut Text, value: i64) -> Result<(), AllocError>
     ensures { λ r. ⌜ Writes r (now (text .entry)) (now (text .exit)) (signed value) ⌝ }
 {
     if value < 0 {
@@ -27,7 +27,7 @@ pub fn write_integer(text: &mut Text, value: i64) -> Result<(), AllocError>
 }
 
 /// Writes `true` or `false`.
-pub fn write_boolean(text: &mut Text, value: bool) -> Result<(), AllocError>
+pub(crate) fn write_boolean(text: &mut Text, value: bool) -> Result<(), AllocError>
     ensures { λ r. ⌜ Writes r (now (text .entry)) (now (text .exit)) (truth value) ⌝ }
 {
     if value {
@@ -38,7 +38,7 @@ pub fn write_boolean(text: &mut Text, value: bool) -> Result<(), AllocError>
 }
 
 /// Writes a byte of a String: as it is, or as a backslash and two hexadecimal digits.
-pub fn write_byte(text: &mut Text, byte: u8) -> Result<(), AllocError>
+pub(crate) fn write_byte(text: &mut Text, byte: u8) -> Result<(), AllocError>
     ensures { λ r. ⌜ Writes r (now (text .entry)) (now (text .exit)) (escaped byte) ⌝ }
 {
     if is_plain(byte) {

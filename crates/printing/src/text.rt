@@ -15,7 +15,7 @@ pub struct Text {
 
 impl Text {
     /// An empty text.
-    pub fn new(heap: Global, room: usize) -> Text
+    pub(crate) fn new(heap: Global, room: usize) -> Text
         ensures written { λ r. ⌜ vec-items (r .bytes) ≡ [] ⌝ }
         ensures room { λ r. ⌜ r .room ≡ room ⌝ }
     {
@@ -26,21 +26,21 @@ impl Text {
     }
 
     /// What was written so far.
-    pub fn as_bytes(&self) -> &[u8]
+    pub(crate) fn as_bytes(&self) -> &[u8]
         ensures { λ r. ⌜ now r ≡ vec-items (now (self .entry) .bytes) ⌝ }
     {
         self.bytes.as_slice()
     }
 
     /// Whether there is no room left.
-    pub fn is_full(&self) -> bool
+    pub(crate) fn is_full(&self) -> bool
         ensures { λ r. ⌜ r ≡ eqb (now (self .entry) .room) 0 ⌝ }
     {
         self.room == 0
     }
 
     /// Writes one byte.
-    pub fn push(&mut self, byte: u8) -> Result<(), AllocError>
+    pub(crate) fn push(&mut self, byte: u8) -> Result<(), AllocError>
         ensures { λ r. ⌜ Writes r (now (self .entry)) (now (self .exit)) (byte ∷ []) ⌝ }
     {
         if self.room > 0 {
@@ -51,7 +51,7 @@ impl Text {
     }
 
     /// Writes bytes, as many as there is room for.
-    pub fn push_all(&mut self, more: &[u8]) -> Result<(), AllocError>
+    pub(crate) fn push_all(&mut self, more: &[u8]) -> Result<(), AllocError>
         ensures { λ r. ⌜ Writes r (now (self .entry)) (now (self .exit)) (now (more .entry)) ⌝ }
     {
         let taken = more.len().min(self.room);
