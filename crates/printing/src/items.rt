@@ -14,7 +14,11 @@ use std::alloc::AllocError;
 
 /// Writes the trees that handles name, parted by commas.
 /// Each item takes a byte at least and a full text ends the walk, so it costs no more than there is room, even where trees share parts.
-pub(crate) fn write_forest<S: Store>(text: &mut Text, store: &S, handles: &[u32]) -> Result<(), AllocError>
+pub(crate) fn write_forest<S: Store>(
+    text: &mut Text,
+    store: &S,
+    handles: &[u32],
+) -> Result<(), AllocError>
     ensures { λ r. ⌜ Writes r (now (text .entry)) (now (text .exit)) (joined (map (printed-at (S·Store .means (now (store .entry)) .trees)) (now (handles .entry)))) ⌝ }
 {
     for (place, handle) in handles.iter().enumerate() {
