@@ -7,7 +7,7 @@ pub returns-then-zeros-left : goal.returns-then-zeros-left
 returns-then-zeros-left c =
     let ws = c.args.words.now in
     let at = c.loop-at.at in
-    let fits = c.type-inv.words (at / 64) in
+    let fits = c.type_inv.words (at / 64) in
     record {
       within = omega arith;
       passed = clear-on ws c.args.from at _ _ (omega arith) c.loop-at.invariant.2 (clear_first ws at fits.fits (omega arith));
@@ -20,7 +20,7 @@ pub returns-else-zeros-left : goal.returns-else-zeros-left
 returns-else-zeros-left c =
     let ws = c.args.words.now in
     let at = c.loop-at.at in
-    let fits = c.type-inv.words (at / 64) in
+    let fits = c.type_inv.words (at / 64) in
     next-none ws c.args.from c.args.end (clear-on ws c.args.from at _ _ (omega arith) c.loop-at.invariant.2 (clear_first ws at fits.fits (omega arith)))
 
 pub returns-then-left-step : goal.returns-then-left-step
