@@ -7,7 +7,7 @@ loop-number-preserved c =
     let ns = c.args.numbers.now in
     let i = c.loop-number.number-index in
     let text = vec_items c.loop-number.text in
-    let longer = vec_items c.push-word.new.text in
+    let longer = vec_items c.push_word.new.text in
     let pushed : longer ≡ text ++ (32 ∷ decimal (get_or ns i 0)) = search rules in
     spaced-more text longer ns i pushed c.loop-number-test.true ∙ c.loop-number.invariant
 

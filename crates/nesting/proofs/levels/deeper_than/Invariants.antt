@@ -5,4 +5,4 @@ use Rattle.nesting.proofs.levels.deeper_than.Given as goal
 abbrev pub invariant-loop-depth : goal.invariant-loop-depth
 invariant-loop-depth g l =
     let ts = (g.S.Store.means l.store).trees in
-    (vec_len l.level ≡ length ts) × (deepest ts (vec_items l.level) ≡ deepest ts (vec_items l.initial.level) - l.-depth)
+    (vec_len l.level ≡ length ts) × (deepest ts (vec_items l.level) ≡ deepest ts (vec_items l.initial.level) - l._depth)

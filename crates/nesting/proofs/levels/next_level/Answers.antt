@@ -8,7 +8,7 @@ use Rattle.nesting.proofs.levels.next_level.Goals.{then-level-handle, else-level
 pub loop-handle-init : goal.loop-handle-init
 loop-handle-init g c =
     let ts = (g.S.Store.means c.args.store.now).trees in
-    let none : deepest ts (vec_items c.in-ok-below.below) ≡ 0 = ap (deepest ts) (c.in-ok-below.ensures.items-if-clones-equal (λ y e. e)) ∙ deepest-none ts (length c.args.level.now) in
+    let none : deepest ts (vec_items c.in_ok-below.below) ≡ 0 = ap (deepest ts) (c.in_ok-below.ensures.items_if_clones_equal (λ y e. e)) ∙ deepest-none ts (length c.args.level.now) in
     (search rules, omega arith)
 
 pub loop-handle-preserved : goal.loop-handle-preserved
@@ -23,9 +23,9 @@ loop-handle-preserved g c =
       | then-level-handle w ↦
           let here : get_or ms h false ≡ true = w.if-level-handle.true in
           let less = depth-children ts h in
-          let was = ap (deepest ts) w.deref-mut.ensures.value in
-          let now : vec_items c.if-level-handle.below ≡ w.mark-children.new.marks = search (rules, with_items_is) in
-          (search rules, grind (arith, here, less, was, ap (deepest ts) now, step, w.mark-children.ensures, c.loop-handle.invariant.1))
+          let was = ap (deepest ts) w.deref_mut.ensures.value in
+          let now : vec_items c.if-level-handle.below ≡ w.mark_children.new.marks = search (rules, with_items_is) in
+          (search rules, grind (arith, here, less, was, ap (deepest ts) now, step, w.mark_children.ensures, c.loop-handle.invariant.1))
       | else-level-handle w ↦
           let here : get_or ms h false ≡ false = w.if-level-handle.false in
           let same = ap (λ v. deepest ts (vec_items v)) w.below-is in

@@ -6,12 +6,12 @@ use Rattle.printing.proofs.Puts.{put_full}
 use Rattle.printing.proofs.Steps.{left, list_all, list_more}
 use Rattle.printing.proofs.items.write_forest.Goals as goal
 
-pub returns-then-is-full : goal.returns-then-is-full
-returns-then-is-full g c =
+pub returns-then-is_full : goal.returns-then-is_full
+returns-then-is_full g c =
     let texts = printed_at (g.S.Store.means c.args.store.now).trees in
     let hs = c.args.handles.now in
     let i = c.loop-place.place in
-    put_full (page c.loop-place.text) (put (page c.args.text.now) (joined (map texts hs))) (left i (map texts (drop i hs))) c.if-is-full.ensures c.loop-place.invariant
+    put_full (page c.loop-place.text) (put (page c.args.text.now) (joined (map texts hs))) (left i (map texts (drop i hs))) c.if-is_full.ensures c.loop-place.invariant
 
 pub loop-place-preserved : goal.loop-place-preserved
 loop-place-preserved g c =
@@ -19,7 +19,7 @@ loop-place-preserved g c =
     let hs = c.args.handles.now in
     let i = c.loop-place.place in
     let lt : i < length hs = omega arith in
-    list_more texts 0 (page c.loop-place.text) (page c.write-separator.new.text) (page c.write-item.new.text) hs i (texts (get_or hs i 0)) lt refl c.in-ok-write-separator.ensures c.in-ok-write-item.ensures c.loop-place.invariant
+    list_more texts 0 (page c.loop-place.text) (page c.write_separator.new.text) (page c.write_item.new.text) hs i (texts (get_or hs i 0)) lt refl c.in_ok-write_separator.ensures c.in_ok-write_item.ensures c.loop-place.invariant
 
 pub returns : goal.returns
 returns g c =

@@ -6,16 +6,16 @@ use Rattle.printing.proofs.Puts.{made-is}
 use Rattle.printing.proofs.Steps.{string-all, string-full, string-more}
 use Rattle.printing.proofs.items.write_string.Goals as goal
 
-pub returns-then-is-full : goal.returns-then-is-full
-returns-then-is-full g c =
+pub returns-then-is_full : goal.returns-then-is_full
+returns-then-is_full g c =
     let bs = text_at (g.S.Store.means c.args.store.now).trees c.args.handle in
-    string-full (page c.args.text.now) (page c.push.new.self) (page c.loop-index.text) bs c.loop-index.index c.if-is-full.ensures c.in-ok-push.ensures c.loop-index.invariant
+    string-full (page c.args.text.now) (page c.push.new.self) (page c.loop-index.text) bs c.loop-index.index c.if-is_full.ensures c.in_ok-push.ensures c.loop-index.invariant
 
 pub loop-index-preserved : goal.loop-index-preserved
 loop-index-preserved g c =
     let bs = text_at (g.S.Store.means c.args.store.now).trees c.args.handle in
     let lt : c.loop-index.index < length bs = search rules in
-    string-more (page c.loop-index.text) (page c.write-byte.new.text) bs (quote ∷ []) c.loop-index.index c.text-byte.result lt c.text-byte.ensures c.in-ok-write-byte.ensures c.loop-index.invariant
+    string-more (page c.loop-index.text) (page c.write_byte.new.text) bs (quote ∷ []) c.loop-index.index c.text_byte.result lt c.text_byte.ensures c.in_ok-write_byte.ensures c.loop-index.invariant
 
 pub returns : goal.returns
 returns g c =
@@ -23,5 +23,5 @@ returns g c =
     let p = page c.args.text.now in
     let q = page c.loop-index.text in
     let past : length bs ≤ c.loop-index.index = search rules in
-    let closed = string-all p (page c.push.new.self) q bs c.loop-index.index past c.in-ok-push.ensures c.loop-index.invariant in
+    let closed = string-all p (page c.push.new.self) q bs c.loop-index.index past c.in_ok-push.ensures c.loop-index.invariant in
     made-is c.push-2.result (page c.push-2.new.self) (put q (quote ∷ [])) (put p (quoted bs)) closed c.push-2.ensures

@@ -15,14 +15,14 @@ blank = record { kind = 0; tag = 0; from = 0; length = 0; value = pos 0 }
 filled : (a b : Arena) (rs : List RawRow) (n : ℕ) → a.base ≡ 0 → vec_items a.rows ≡ [] → n ≤ length rs → Holds a (take n rs) b → b.base + vec_len b.rows ≡ n
 filled a b rs n ground empty le h = omega (arith, ground, a.rows.ok.0, ap length empty, h.base, h.long, length-take-le n rs le)
 
-pub returns-then-not-add-row : goal.returns-then-not-add-row
-returns-then-not-add-row c =
+pub returns-then-not-add_row : goal.returns-then-not-add_row
+returns-then-not-add_row c =
     let a = c.args.own.now in
     let b = c.loop-index.own in
     let rs = c.args.rows.now in
     let n = c.loop-index.index in
     let h = c.loop-index.invariant.0 in
-    sym c.loop-index.invariant.1 ∙ stopped_at a b rs n blank c.loop-index-test.true (filled a b rs n c.requires.ground c.requires.empty c.loop-index.auto.index-end h) h.children h.text c.if-not-add-row.ensures
+    sym c.loop-index.invariant.1 ∙ stopped_at a b rs n blank c.loop-index-test.true (filled a b rs n c.requires.ground c.requires.empty c.loop-index.auto.index-end h) h.children h.text c.if-not-add_row.ensures
 
 pub loop-index-preserved : goal.loop-index-preserved
 loop-index-preserved c =
@@ -31,8 +31,8 @@ loop-index-preserved c =
     let rs = c.args.rows.now in
     let n = c.loop-index.index in
     let h = c.loop-index.invariant.0 in
-    let took = c.if-not-add-row.ensures in (
-      subst (λ (xs : List RawRow). Holds a xs c.add-row.new.own) (sym (take_more rs n blank c.loop-index-test.true)) (holds_more a b c.add-row.new.own (take n rs) (get_or rs n blank ∷ []) h took.1),
+    let took = c.if-not-add_row.ensures in (
+      subst (λ (xs : List RawRow). Holds a xs c.add_row.new.own) (sym (take_more rs n blank c.loop-index-test.true)) (holds_more a b c.add_row.new.own (take n rs) (get_or rs n blank ∷ []) h took.1),
       went_on a b rs n blank c.loop-index-test.true (filled a b rs n c.requires.ground c.requires.empty c.loop-index.auto.index-end h) h.children h.text took.0 ∙ c.loop-index.invariant.1,
     )
 

@@ -3,13 +3,23 @@ use Rattle.arena.specs.Rows.{built, sound, row_sound}
 use Rattle.arena.proofs.Builds.{sound-push, built-push, length-built}
 use Rattle.arena.proofs.arena.Arena.add.Goals as goal
 
-pub invariant-of-self : goal.invariant-of-self
-invariant-of-self c =
+pub invariant_of-self : goal.invariant_of-self
+invariant_of-self c =
     let a = c.args.self.now in
     let es = vec_items a.children in
     let bs = vec_items a.text in
     let good : row_sound (a.base + length (vec_items a.rows)) es bs c.args.row ≡ true = ap (λ n. row_sound (a.base + n) es bs c.args.row) (sym a.rows.ok.0) ∙ c.requires.good in
-    (ap (sound a.base es bs) c.push-reserved.ensures.items ∙ sound-push a.base es bs (vec_items a.rows) c.args.row a.good good, (a.bytes, search rules))
+    record {
+      good = ap (sound a.base es bs) c.push_reserved.ensures.items ∙ sound-push a.base es bs (vec_items a.rows) c.args.row a.good good;
+      bytes = a.bytes;
+      base_few = search rules;
+      rows_few = search rules;
+      children_few = search rules;
+      text_few = search rules;
+      rows_reserved = search rules;
+      children_reserved = search rules;
+      text_reserved = search rules;
+    }
 
 pub returns : goal.returns
 returns c =
@@ -18,10 +28,10 @@ returns c =
     let bs = vec_items a.text in
     record {
       base = refl;
-      rows = c.push-reserved.ensures.items;
+      rows = c.push_reserved.ensures.items;
       children = refl;
       text = refl;
       space = search rules;
       handle = λ ts e. omega (arith, length-built ts es bs (vec_items a.rows), a.rows.ok.0, c.len.ensures);
-      trees = λ ts e. ap (built ts es bs) c.push-reserved.ensures.items ∙ built-push ts es bs (vec_items a.rows) c.args.row;
+      trees = λ ts e. ap (built ts es bs) c.push_reserved.ensures.items ∙ built-push ts es bs (vec_items a.rows) c.args.row;
     }

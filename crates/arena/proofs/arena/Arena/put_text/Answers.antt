@@ -6,23 +6,31 @@ use Rattle.arena.specs.Rows.{built, sound}
 use Rattle.arena.proofs.Builds.{sound_more, built-more}
 use Rattle.arena.proofs.arena.Arena.put_text.Goals as goal
 
-pub invariant-of-self : goal.invariant-of-self
-invariant-of-self c =
+pub invariant_of-self : goal.invariant_of-self
+invariant_of-self c =
     let a = c.args.self.now in
     let es = vec_items a.children in
     let rs = vec_items a.rows in
-    let bs : vec_items c.extend-from-slice.new.self ≡ vec_items a.text ++ c.args.text.now = search rules in
-    let legal : bytes_lawful c.args.text.now ≡ true = search (rules, bytes_fit) in (
-      ap (λ x. sound a.base es x rs) bs ∙ ap (λ x. sound a.base x (vec_items a.text ++ c.args.text.now) rs) (sym (append-nil es)) ∙ sound_more a.base es (vec_items a.text) [] c.args.text.now rs a.good,
-      (ap bytes_lawful bs ∙ bytes_append (vec_items a.text) c.args.text.now a.bytes legal, search rules),
-    )
+    let bs : vec_items c.extend_from_slice.new.self ≡ vec_items a.text ++ c.args.text.now = search rules in
+    let legal : bytes_lawful c.args.text.now ≡ true = search (rules, bytes_fit) in
+    record {
+      good = ap (λ x. sound a.base es x rs) bs ∙ ap (λ x. sound a.base x (vec_items a.text ++ c.args.text.now) rs) (sym (append-nil es)) ∙ sound_more a.base es (vec_items a.text) [] c.args.text.now rs a.good;
+      bytes = ap bytes_lawful bs ∙ bytes_append (vec_items a.text) c.args.text.now a.bytes legal;
+      base_few = search rules;
+      rows_few = search rules;
+      children_few = search rules;
+      text_few = search rules;
+      rows_reserved = search rules;
+      children_reserved = search rules;
+      text_reserved = search rules;
+    }
 
 pub returns : goal.returns
 returns c =
     let a = c.args.self.now in
     let es = vec_items a.children in
     let rs = vec_items a.rows in
-    let bs : vec_items c.extend-from-slice.new.self ≡ vec_items a.text ++ c.args.text.now = search rules in
+    let bs : vec_items c.extend_from_slice.new.self ≡ vec_items a.text ++ c.args.text.now = search rules in
     record {
       extended = record {
         base = refl;

@@ -8,30 +8,30 @@ use Rattle.capture.proofs.capture.Capture.load.Goals as goal
 
 pub loop-index-init : goal.loop-index-init
 loop-index-init c =
-    let it = c.into-iter-index-iterator.result in
+    let it = c.into_iter-index-iterator.result in
     let rest : chunks_rest (enumerate_source it) ≡ c.args.bytes.now = search rules in
     let none : enumerate_count it ≡ 0 = search rules in
     let empty : vec_items c.new-events.result ≡ [] = search rules in
     (search rules, search rules, search rules, rw (rest, none, empty) (start c.args.bytes.now))
 
-pub returns-then-index-ge-MAX-EVENTS : goal.returns-then-index-ge-MAX-EVENTS
-returns-then-index-ge-MAX-EVENTS c =
+pub returns-then-index-ge-MAX_EVENTS : goal.returns-then-index-ge-MAX_EVENTS
+returns-then-index-ge-MAX_EVENTS c =
     let s = c.in-Some.ensures.steps in
     one_too_many _ _ _ _ _ _ _ _ c.loop-index.invariant.3 c.loop-index.invariant.2 s.0.1 _ _ (omega arith) s.1 c.unlawful.ensures
 
-pub returns-in-default : goal.returns-in-default
-returns-in-default c =
+pub returns-in_default : goal.returns-in_default
+returns-in_default c =
     let s = c.in-Some.ensures.steps in
-    unlawful-here _ _ _ _ _ _ _ _ c.loop-index.invariant.3 c.loop-index.invariant.2 s.0.1 _ _ c.in-default.ensures s.1 c.unlawful-in-default.ensures
+    unlawful-here _ _ _ _ _ _ _ _ c.loop-index.invariant.3 c.loop-index.invariant.2 s.0.1 _ _ c.in_default.ensures s.1 c.unlawful-in_default.ensures
 
 pub loop-index-preserved : goal.loop-index-preserved
 loop-index-preserved c =
     let s = c.in-Some.ensures.steps in
-    let items : vec_items c.push.new.self ≡ vec_items c.loop-index.events ++ (c.in-Some-read-event.event ∷ []) = search rules in
-    (search rules, search rules, search rules, rw items (goes_on _ _ _ _ _ _ _ _ c.loop-index.invariant.3 c.loop-index.invariant.2 s.0.1 c.in-Some-read-event.event _ _ (omega (arith, s.1)) s.2 (search rules) c.in-Some-read-event.ensures))
+    let items : vec_items c.push.new.self ≡ vec_items c.loop-index.events ++ (c.in-Some-read_event.event ∷ []) = search rules in
+    (search rules, search rules, search rules, rw items (goes_on _ _ _ _ _ _ _ _ c.loop-index.invariant.3 c.loop-index.invariant.2 s.0.1 c.in-Some-read_event.event _ _ (omega (arith, s.1)) s.2 (search rules) c.in-Some-read_event.ensures))
 
-pub invariant-of-result : goal.invariant-of-result
-invariant-of-result c = (search rules, (legal _ c.loop-index.invariant.3.ranged, tt))
+pub invariant_of-result : goal.invariant_of-result
+invariant_of-result c = record { few = search rules; legal = legal _ c.loop-index.invariant.3.ranged }
 
 pub returns : goal.returns
 returns c =

@@ -4,6 +4,6 @@ use Rattle.capture.proofs.store.CaptureStore.text_byte.Goals as goal
 
 pub returns : goal.returns
 returns c =
-    let none = no_text (vec_items c.args.self.now.events) c.args.-handle in
-    let t = ap (λ bs. get_or bs c.args.-index 0) none in
+    let none = no_text (vec_items c.args.self.now.events) c.args._handle in
+    let t = ap (λ bs. get_or bs c.args._index 0) none in
     search rules

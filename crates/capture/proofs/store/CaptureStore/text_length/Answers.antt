@@ -4,6 +4,6 @@ use Rattle.capture.proofs.store.CaptureStore.text_length.Goals as goal
 
 pub returns : goal.returns
 returns c =
-    let none = no_text (vec_items c.args.self.now.events) c.args.-handle in
+    let none = no_text (vec_items c.args.self.now.events) c.args._handle in
     let t = ap length none in
     search rules

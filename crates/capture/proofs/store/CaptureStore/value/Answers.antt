@@ -8,7 +8,7 @@ returns-in-Value c =
     let r = reads item_value (pos 0) (vec_items c.args.self.now.events) c.args.handle c.index.result.now c.place.result c.place.ensures in
     search rules
 
-pub returns-in-default : goal.returns-in-default
-returns-in-default c =
+pub returns-in_default : goal.returns-in_default
+returns-in_default c =
     let r = reads item_value (pos 0) (vec_items c.args.self.now.events) c.args.handle blank c.place.result c.place.ensures in
     search rules

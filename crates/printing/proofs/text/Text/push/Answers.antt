@@ -3,5 +3,5 @@ use Rattle.printing.specs.Writing.{page}
 use Rattle.printing.proofs.Puts.{put_one}
 use Rattle.printing.proofs.text.Text.push.Goals as goal
 
-pub returns-in-ok-push : goal.returns-in-ok-push
-returns-in-ok-push c = put_one (page c.args.self.now) _ c.args.byte (omega arith) (search rules) refl
+pub returns-in_ok-push : goal.returns-in_ok-push
+returns-in_ok-push c = put_one (page c.args.self.now) _ c.args.byte (omega arith) (search rules) refl

@@ -5,8 +5,8 @@ use Rattle.session.proofs.Counted.{fits_counted}
 use Rattle.session.proofs.Laws.{expressions-push, arms-grow, functions-grow, query-grow}
 use Rattle.session.proofs.program.Program.push_expression.Goals as goal
 
-pub invariant-of-self : goal.invariant-of-self
-invariant-of-self c =
+pub invariant_of-self : goal.invariant_of-self
+invariant_of-self c =
     let p = c.args.self.now in
     let rows = program_rows p in
     let n = p.expressions.count in

@@ -5,8 +5,8 @@ use Rattle.session.proofs.Counted.{expressions-long}
 use Rattle.session.proofs.Laws.{functions-push}
 use Rattle.session.proofs.program.Program.push_function.Goals as goal
 
-pub invariant-of-self : goal.invariant-of-self
-invariant-of-self c =
+pub invariant_of-self : goal.invariant_of-self
+invariant_of-self c =
     let p = c.args.self.now in
     let rows = program_rows p in
     let n = p.expressions.count in (

@@ -3,8 +3,8 @@ use Rattle.session.specs.Tables.{program_rows}
 use Rattle.session.proofs.Laws.{expressions-more}
 use Rattle.session.proofs.program.Program.push_text.Goals as goal
 
-pub invariant-of-self : goal.invariant-of-self
-invariant-of-self c =
+pub invariant_of-self : goal.invariant_of-self
+invariant_of-self c =
     let p = c.args.self.now in
     let m = p.arms.count in
     let l = p.text.count in

@@ -5,8 +5,8 @@ use Rattle.session.proofs.Counted.{expressions-long}
 use Rattle.session.proofs.Laws.{functions-set}
 use Rattle.session.proofs.program.Program.set_body.Goals as goal
 
-pub invariant-of-self : goal.invariant-of-self
-invariant-of-self c =
+pub invariant_of-self : goal.invariant_of-self
+invariant_of-self c =
     let p = c.args.self.now in
     let n = p.expressions.count in
     let lt : c.args.row < n = omega (arith, expressions-long p, c.requires.row) in (
@@ -14,7 +14,7 @@ invariant-of-self c =
       (
         p.arms_lawful,
         (
-          ap (functions_lawful n) c.set-body.ensures.rows ∙ functions-set n (program_rows p).functions c.args.function c.args.row p.functions_lawful (lt-ltb c.args.row n lt),
+          ap (functions_lawful n) c.set_body.ensures.rows ∙ functions-set n (program_rows p).functions c.args.function c.args.row p.functions_lawful (lt-ltb c.args.row n lt),
           (p.query_lawful, tt),
         ),
       ),

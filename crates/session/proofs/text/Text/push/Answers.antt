@@ -2,14 +2,14 @@ use Rattle.std.proofs.Common.{◌≡◌, ◌+◌, ◌-◌, ◌≤◌, ◌++◌, 
 use Rattle.std.proofs.lemmas.Slice.{take-put_mid, overwrites}
 use Rattle.session.proofs.text.Text.push.Goals as goal
 
-pub invariant-of-self : goal.invariant-of-self
-invariant-of-self c = search (rules, overwrites)
+pub invariant_of-self : goal.invariant_of-self
+invariant_of-self c = search (rules, overwrites)
 
 pub returns : goal.returns
 returns c =
     let t = c.args.self.now in
-    let ys = c.copy-from-slice.new.self in
-    let is = c.copy-from-slice.ensures.after in
+    let ys = c.copy_from_slice.new.self in
+    let is = c.copy_from_slice.ensures.after in
     let long : t.count + length c.args.text.now ≡ t.count + length ys = omega (arith, ap length is) in
     let le : t.count ≤ length t.bytes = omega arith in
     record {

@@ -5,8 +5,8 @@ use Rattle.session.specs.Tables.{declared_of}
 use Rattle.session.proofs.Laws.{types-push, right}
 use Rattle.session.proofs.type_table.TypeTable.push.Goals as goal
 
-pub invariant-of-self-2 : goal.invariant-of-self-2
-invariant-of-self-2 c =
+pub invariant_of-self-2 : goal.invariant_of-self-2
+invariant_of-self-2 c =
     let t = c.args.self.now in
     let n = t.counts.declared in
     let lt : n < length t.rows = omega arith in
