@@ -1,4 +1,4 @@
 use Rattle.printing.proofs.scalars.+write_decimal.Given as goal
 
-abbrev pub decreases-write-decimal : goal.decreases-write-decimal
-decreases-write-decimal l = l.number
+abbrev pub decreases-write_decimal : goal.decreases-write_decimal
+decreases-write_decimal l = l.number

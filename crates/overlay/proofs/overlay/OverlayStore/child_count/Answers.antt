@@ -8,14 +8,14 @@ pub returns-in-Own : goal.returns-in-Own
 returns-in-Own g c =
     let t = c.args.self.now in
     let ts = (g.S.Store.means t.below).trees in
-    c.child-count.ensures (lower t.own.base ts) (length-lower t.own.base ts) c.in-Own.ensures
+    c.child_count.ensures (lower t.own.base ts) (length-lower t.own.base ts) c.in-Own.ensures
 
 pub returns-in-Below : goal.returns-in-Below
 returns-in-Below g c =
     let t = c.args.self.now in
     let ts = (g.S.Store.means t.below).trees in
     let here = c.in-Below.ensures in
-    c.child-count-in-Below.ensures ∙ ap (length) (sym (reads-lower item_children [] t.own ts c.args.handle here.0 here.1))
+    c.child_count-in-Below.ensures ∙ ap (length) (sym (reads-lower item_children [] t.own ts c.args.handle here.0 here.1))
 
 pub returns-in-Lost : goal.returns-in-Lost
 returns-in-Lost g c =

@@ -5,4 +5,4 @@ use Rattle.overlay.proofs.overlay.OverlayStore.make_element.Goals as goal
 pub returns : goal.returns
 returns g c =
     let t = c.args.self.now in
-    made-above 6 c.layer-number.result (λ us. asked_element us c.args.tag c.args.children.now) t.own c.make-element.new.self c.make-element.result (g.S.Store.means t.below).trees c.layer-number.ensures c.make-element.ensures.same c.make-element.ensures.made
+    made-above 6 c.layer_number.result (λ us. asked_element us c.args.tag c.args.children.now) t.own c.make_element.new.self c.make_element.result (g.S.Store.means t.below).trees c.layer_number.ensures c.make_element.ensures.same c.make_element.ensures.made

@@ -8,4 +8,4 @@ pub returns : goal.returns
 returns g c =
     let t = c.args.self.now in
     let fits : SFits w64 c.args.value = c.ranges.value in
-    made-above 6 c.layer-number.result (λ _. asked_integer c.args.value) t.own c.make-integer.new.self c.make-integer.result (g.S.Store.means t.below).trees c.layer-number.ensures c.make-integer.ensures.same (simp to_z-of_z at c.make-integer.ensures.made)
+    made-above 6 c.layer_number.result (λ _. asked_integer c.args.value) t.own c.make_integer.new.self c.make_integer.result (g.S.Store.means t.below).trees c.layer_number.ensures c.make_integer.ensures.same (simp to_z-of_z at c.make_integer.ensures.made)

@@ -15,10 +15,10 @@ invariant_of-self c =
     let l = p.text.count in
     let more = c.push.new.self.count in
     let le : m ≤ more = omega (arith, c.push.ensures.count) in
-    let same : l ≤ l = omega arith in (
-      expressions-more 0 m l more l rows.expressions le same p.expressions_lawful,
-      (
-        ap (arms_lawful n) c.push.ensures.rows ∙ arms-push n rows.arms c.args.row p.arms_lawful (ap (λ k. arm_fits k c.args.row) (sym (expressions-long p)) ∙ c.requires.fits),
-        (p.functions_lawful, (p.query_lawful, tt)),
-      ),
-    )
+    let same : l ≤ l = omega arith in
+    record {
+      expressions_lawful = expressions-more 0 m l more l rows.expressions le same p.expressions_lawful;
+      arms_lawful = ap (arms_lawful n) c.push.ensures.rows ∙ arms-push n rows.arms c.args.row p.arms_lawful (ap (λ k. arm_fits k c.args.row) (sym (expressions-long p)) ∙ c.requires.fits);
+      functions_lawful = p.functions_lawful;
+      query_lawful = p.query_lawful;
+    }

@@ -11,7 +11,10 @@ invariant_of-self c =
     let rows = program_rows p in
     let n = p.expressions.count in
     let more = c.push.new.self.count in
-    let le : n ≤ more = omega (arith, c.push.ensures.count) in (
-      ap (expressions_lawful 0 p.arms.count p.text.count) c.push.ensures.rows ∙ expressions-push 0 p.arms.count p.text.count rows.expressions c.args.row p.expressions_lawful (fits_counted p c.args.row c.requires.fits),
-      (arms-grow n more rows.arms le p.arms_lawful, (functions-grow n more rows.functions le p.functions_lawful, (query-grow n more p.query le p.query_lawful, tt))),
-    )
+    let le : n ≤ more = omega (arith, c.push.ensures.count) in
+    record {
+      expressions_lawful = ap (expressions_lawful 0 p.arms.count p.text.count) c.push.ensures.rows ∙ expressions-push 0 p.arms.count p.text.count rows.expressions c.args.row p.expressions_lawful (fits_counted p c.args.row c.requires.fits);
+      arms_lawful = arms-grow n more rows.arms le p.arms_lawful;
+      functions_lawful = functions-grow n more rows.functions le p.functions_lawful;
+      query_lawful = query-grow n more p.query le p.query_lawful;
+    }

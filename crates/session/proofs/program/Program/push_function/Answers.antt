@@ -9,13 +9,10 @@ pub invariant_of-self : goal.invariant_of-self
 invariant_of-self c =
     let p = c.args.self.now in
     let rows = program_rows p in
-    let n = p.expressions.count in (
-      p.expressions_lawful,
-      (
-        p.arms_lawful,
-        (
-          ap (functions_lawful n) c.push.ensures.rows ∙ functions-push n rows.functions c.args.row p.functions_lawful (ap (λ k. function_right k c.args.row) (sym (expressions-long p)) ∙ c.requires.fits),
-          (p.query_lawful, tt),
-        ),
-      ),
-    )
+    let n = p.expressions.count in
+    record {
+      expressions_lawful = p.expressions_lawful;
+      arms_lawful = p.arms_lawful;
+      functions_lawful = ap (functions_lawful n) c.push.ensures.rows ∙ functions-push n rows.functions c.args.row p.functions_lawful (ap (λ k. function_right k c.args.row) (sym (expressions-long p)) ∙ c.requires.fits);
+      query_lawful = p.query_lawful;
+    }

@@ -11,4 +11,9 @@ invariant_of-self c =
     let more = c.push.new.self.count in
     let le : l ≤ more = omega (arith, c.push.ensures.count) in
     let same : m ≤ m = omega arith in
-    (expressions-more 0 m l m more (program_rows p).expressions same le p.expressions_lawful, (p.arms_lawful, (p.functions_lawful, (p.query_lawful, tt))))
+    record {
+      expressions_lawful = expressions-more 0 m l m more (program_rows p).expressions same le p.expressions_lawful;
+      arms_lawful = p.arms_lawful;
+      functions_lawful = p.functions_lawful;
+      query_lawful = p.query_lawful;
+    }

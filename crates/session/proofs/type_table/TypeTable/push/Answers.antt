@@ -10,10 +10,11 @@ invariant_of-self-2 c =
     let t = c.args.self.now in
     let n = t.counts.declared in
     let lt : n < length t.rows = omega arith in
-    let good = right (declared_of t) n c.args.row (length-take-le n t.rows (omega arith)) c.requires.fits c.requires.once c.requires.free in (
-      length-set t.rows n c.args.row ∙ t.long,
-      (ap (types_lawful []) (take_more_set t.rows n c.args.row lt) ∙ types-push [] (declared_of t) c.args.row t.lawful good, tt),
-    )
+    let good = right (declared_of t) n c.args.row (length-take-le n t.rows (omega arith)) c.requires.fits c.requires.once c.requires.free in
+    record {
+      long = length-set t.rows n c.args.row ∙ t.long;
+      lawful = ap (types_lawful []) (take_more_set t.rows n c.args.row lt) ∙ types-push [] (declared_of t) c.args.row t.lawful good;
+    }
 
 pub returns : goal.returns
 returns c =
