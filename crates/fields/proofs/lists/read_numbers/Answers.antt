@@ -3,14 +3,14 @@ use Rattle.fields.specs.Rows.{number32}
 use Rattle.fields.proofs.Pairs.{each_more, each_none, each_all}
 use Rattle.fields.proofs.lists.read_numbers.Goals as goal
 
-pub returns-in-default : goal.returns-in-default
-returns-in-default c =
-    sym (each_none number32 c.args.words.now (vec_items c.loop-word.numbers) c.loop-word.word-index _ c.loop-word-test.true c.in-default.ensures)
+pub returns-in_default : goal.returns-in_default
+returns-in_default c =
+    sym (each_none number32 c.args.words.now (vec_items c.loop-word.numbers) c.loop-word.word-index _ c.loop-word-test.true c.in_default.ensures)
     ∙ c.loop-word.invariant
 
 pub loop-word-preserved : goal.loop-word-preserved
 loop-word-preserved c =
-    each_more number32 c.args.words.now (vec_items c.loop-word.numbers) c.loop-word.word-index _ (vec_items c.push.new.self) c.in-Some.number c.in-ok-push.ensures.items c.loop-word-test.true c.in-Some.ensures
+    each_more number32 c.args.words.now (vec_items c.loop-word.numbers) c.loop-word.word-index _ (vec_items c.push.new.self) c.in-Some.number c.in_ok-push.ensures.items c.loop-word-test.true c.in-Some.ensures
     ∙ c.loop-word.invariant
 
 pub returns : goal.returns

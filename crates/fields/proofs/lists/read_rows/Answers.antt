@@ -3,14 +3,14 @@ use Rattle.fields.specs.Rows.{row_of}
 use Rattle.fields.proofs.Pairs.{each_more, each_none, each_all}
 use Rattle.fields.proofs.lists.read_rows.Goals as goal
 
-pub returns-in-default : goal.returns-in-default
-returns-in-default c =
-    sym (each_none row_of c.args.words.now (vec_items c.loop-word.rows) c.loop-word.word-index _ c.loop-word-test.true (sym c.in-default.is ∙ c.in-ok-row.ensures))
+pub returns-in_default : goal.returns-in_default
+returns-in_default c =
+    sym (each_none row_of c.args.words.now (vec_items c.loop-word.rows) c.loop-word.word-index _ c.loop-word-test.true (sym c.in_default.is ∙ c.in_ok-row.ensures))
     ∙ c.loop-word.invariant
 
 pub loop-word-preserved : goal.loop-word-preserved
 loop-word-preserved c =
-    each_more row_of c.args.words.now (vec_items c.loop-word.rows) c.loop-word.word-index _ (vec_items c.push.new.self) c.in-Some.row c.in-ok-push.ensures.items c.loop-word-test.true (sym c.in-Some.is ∙ c.in-ok-row.ensures)
+    each_more row_of c.args.words.now (vec_items c.loop-word.rows) c.loop-word.word-index _ (vec_items c.push.new.self) c.in-Some.row c.in_ok-push.ensures.items c.loop-word-test.true (sym c.in-Some.is ∙ c.in_ok-row.ensures)
     ∙ c.loop-word.invariant
 
 pub returns : goal.returns

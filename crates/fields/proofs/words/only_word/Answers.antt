@@ -8,8 +8,8 @@ returns-in-len1 c =
     let long : length words ≡ 1 = search rules in
     only_one (λ w. w.now) _ words long
 
-pub returns-in-default : goal.returns-in-default
-returns-in-default c =
+pub returns-in_default : goal.returns-in_default
+returns-in_default c =
     let words = c.args.words.now in
     let other : length words ≢ 1 = search rules in
     only_none (λ w. w.now) words other
