@@ -10,5 +10,5 @@ returns-in-Ok-print g c =
     let m = g.S.Store.means c.args.store.now in
     let zeros : vec_items c.in-Ok.buffer ≡ replicate c.args.places 0 = search rules in
     let items : vec_items c.truncate.new.self ≡ take c.in-Ok-print.length c.print.new.buffer = c.truncate.ensures.items ∙ ap (take c.in-Ok-print.length) (with_items_is c.in-Ok.buffer c.print.new.buffer (search rules)) in
-    let out = c.in-Ok-print.ensures ∙ ap (λ b. printing m.trees c.args.handles.now b) (c.deref-mut.ensures.value ∙ zeros) in
+    let out = c.in-Ok-print.ensures ∙ ap (λ b. printing m.trees c.args.handles.now b) (c.deref_mut.ensures.value ∙ zeros) in
     ap (λ bs. (text bs, m)) items ∙ ap (λ o. (printed_as o, m)) out
