@@ -69,7 +69,7 @@ fn answer_sorted(heap: Global, mut tags: Vec<u32>) -> Answer
     requires { vec_len tags ≤ 640 }
     ensures { TagsSorted tags.items (said result) }
 {
-    tags.sort();
+    tags.sort_unstable();
     let mut numbers = Vec::new(heap);
     if numbers.push(tags.len() as u32).is_err() {
         return Answer::Unsupported;

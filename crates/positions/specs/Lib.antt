@@ -3,4 +3,3 @@ pub mod Filling
 pub mod Life
 pub mod Right
 pub mod Finding
-pub mod Asked

@@ -1,5 +1,4 @@
 mod alive;
-mod asking;
 mod build;
 mod determinism;
 mod ends;
@@ -12,5 +11,4 @@ mod nullable;
 mod tables;
 mod tops;
 
-pub use asking::{ask, is_one_way};
 pub use tables::{Moves, Positions};

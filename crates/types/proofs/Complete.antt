@@ -1,4 +1,4 @@
--- A subtype of a one_way type simulates in it: one forest shows each item that is needed, and determinism makes every other forest go the same way.
+-- A subtype of a one-way type simulates in it: one forest shows each item that is needed, and determinism makes every other forest go the same way.
 use Rattle.std.proofs.Common.{◌≡◌, ℕ, ◌<◌, ◌≤◌, true, List, [], ◌∷◌, Some, None, Option, sym, refl, ap, ◌∙◌, subst, arith}
 use Rattle.forest.specs.Forests.{Scalar, integer, string, boolean, Forest, none, leaf, node, scalar_lawful, tag_lawful}
 use Rattle.rows.specs.declared.type_row.TypeRow.{TypeRow}

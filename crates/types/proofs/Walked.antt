@@ -1,4 +1,4 @@
--- A walk along a forest, item by item, from place to place of a one_way type.
+-- A walk along a forest, item by item, from place to place of a one-way type.
 use Rattle.std.proofs.Common.{◌≡◌, ℕ, List, [], ◌∷◌, sym, refl, ap, ◌∙◌, subst}
 use Rattle.forest.specs.Forests.{Scalar, Forest, none, leaf, node}
 use Rattle.rows.specs.declared.type_row.TypeRow.{TypeRow}

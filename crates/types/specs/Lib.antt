@@ -4,4 +4,3 @@ pub mod Determinism
 pub mod Places
 pub mod Tables
 pub mod Worked
-pub mod Asking

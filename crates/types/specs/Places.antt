@@ -100,7 +100,7 @@ pub record Simulates (ts : List TypeRow) (a b : ℕ) : Type 0 where
   pub ends : (p q : Place) → Reach ts a b p q → Ends ts p → Ends ts q
   pub steps : (p q : Place) (n : ℕ) → Reach ts a b p q → Next ts p n → Useful ts (type_of p) n → Covered ts q n
 
--- What a check finds of its table before it types anything: contents are roots, those of declared rows are declared, and every declared root is one_way.
+-- What a check finds of its table before it types anything: contents are roots, those of declared rows are declared, and every declared root is one-way.
 pub record Checked (ts : List TypeRow) (declared : ℕ) : Type 0 where
   pub lawful : Lawful ts
   pub contents : (n c : ℕ) → content (row ts n) ≡ Some c → Root ts c

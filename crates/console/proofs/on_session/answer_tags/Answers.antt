@@ -13,4 +13,4 @@ returns-in-Ok-tags c =
     let list = c.tags.new.list in
     let zeros : vec_items c.in-Ok.list ≡ replicate (min c.args.places 640) 0 = search rules in
     let items : vec_items c.truncate.new.self ≡ take n list = c.truncate.ensures.items ∙ ap (take n) (with_items_is c.in-Ok.list list (search rules)) in
-    told p c.args.places n list _ (said c.answer-sorted.result) (subst (λ (b : List ℕ). ListsTags p n b list) (c.deref-mut.ensures.value ∙ zeros) c.in-Ok-tags.ensures) items c.answer-sorted.ensures
+    told p c.args.places n list _ (said c.answer_sorted.result) (subst (λ (b : List ℕ). ListsTags p n b list) (c.deref_mut.ensures.value ∙ zeros) c.in-Ok-tags.ensures) items c.answer_sorted.ensures

@@ -7,5 +7,5 @@ use Rattle.types.proofs.type_rows.TypeRows.row.Goals as goal
 pub returns-else-row-rows : goal.returns-else-row-rows
 returns-else-row-rows c =
     let ts = rows_of c.args.self.now in
-    let past : length ts ≤ c.args.row = omega (arith, ap length c.as-slice-rows.ensures.rows) in
+    let past : length ts ≤ c.args.row = omega (arith, ap length c.as_slice-rows.ensures.rows) in
     sym (get_or_past ts c.args.row EmptyChoice past)
