@@ -1,11 +1,11 @@
 -- Laws of the trees that rows stand for.
-use Rattle.std.proofs.Common.{◌≡◌, ℕ, zero, suc, ◌+◌, ◌-◌, ◌<◌, ◌≤◌, min, Bool, true, false, ◌&&◌, leb, List, [], ◌∷◌, ◌++◌, length, get_or, take, drop, sym, refl, ap, ◌∙◌, append_assoc, le_of_suc-le-suc, not-suc-le-zero, add_assoc, arith, length-append, length-drop, length-take, le-leb, leb-true}
+use Rattle.std.proofs.Common.{◌≡◌, ℕ, zero, suc, ◌+◌, ◌-◌, ◌<◌, ◌≤◌, true, List, [], ◌∷◌, ◌++◌, length, get_or, drop, sym, refl, ap, ◌∙◌, le_of_suc-le-suc, not-suc-le-zero, arith, length-append, length-drop, length-take, le-leb, leb-true}
 use lib.Seq.{take-append-le, drop-append-le}
-use Rattle.std.proofs.lemmas.List.{get_or-take, get_or-drop, get_or_append_left, get_or-append_right, get_or_default, length_push}
-use Rattle.forest.specs.Forests.{Item, scalar, element, integer, string, boolean, forest, lawful, bytes_lawful, tag_lawful, integer_lawful}
+use Rattle.std.proofs.lemmas.List.{get_or-take, get_or-drop, get_or_append_left, get_or-append_right, length_push}
+use Rattle.forest.specs.Forests.{Item, scalar, element, string, forest, lawful, bytes_lawful, tag_lawful}
 use Rattle.forest.specs.Stores.{picked, all_below, nothing}
-use Rattle.forest.proofs.Picked.{both, and_true, picked_same, below_mono}
-use Rattle.forest.proofs.Legal.{legal, legal-before, lawful-append, lawful-picked, bytes_take, bytes_drop}
+use Rattle.forest.proofs.Picked.{both, and_true, picked_same}
+use Rattle.forest.proofs.Legal.{legal, lawful-append, lawful-picked, bytes_take, bytes_drop}
 use Rattle.arena.specs.declared.row.Row.{Row}
 use Rattle.arena.specs.declared.row.Row.TheVariants.{Boolean, Integer, String, Element}
 use Rattle.arena.specs.declared.row.Span.{Span}

@@ -1,10 +1,9 @@
 -- What is read of an arena is what its trees have.
-use Rattle.std.proofs.Common.{◌≡◌, ℕ, ◌+◌, ◌<◌, ◌≤◌, true, List, [], ◌∷◌, map, length, get_or, ℤ, pos, Some, None, vec_items, Option, sym, refl, ap, ◌∙◌, arith, le-leb}
+use Rattle.std.proofs.Common.{◌≡◌, ℕ, ◌+◌, ◌<◌, ◌≤◌, true, List, [], map, length, get_or, pos, Some, None, vec_items, Option, sym, refl, ap, ◌∙◌, arith, le-leb}
 use lib.ListN.{length-map}
 use Rattle.std.proofs.lemmas.List.{get_or-map, get_or_past, get_or_default}
-use Rattle.forest.specs.declared.kind.Kind.{Kind}
 use Rattle.forest.specs.declared.kind.Kind.TheVariants.{Absent}
-use Rattle.forest.specs.Forests.{Item, scalar, element, tag_lawful}
+use Rattle.forest.specs.Forests.{Item, tag_lawful}
 use Rattle.forest.specs.Stores.{nothing, picked, all_below, item_kind, item_tag, item_value, item_children, item_text, kind_at, tag_at, value_at, children_at, text_at, Child}
 use Rattle.forest.proofs.Items.{items-forest}
 use Rattle.forest.proofs.Picked.{both, length-picked, get_d_picked, below_at}

@@ -1,12 +1,12 @@
 -- Strings and elements: what an arena means after text or entries were put behind and a row was added.
-use Rattle.std.proofs.Common.{◌≡◌, ℕ, ◌+◌, ◌-◌, ◌<◌, ◌≤◌, Bool, true, false, ◌&&◌, leb, ◌⊎◌, List, [], ◌∷◌, ◌++◌, length, get_or, take, drop, Ok, Err, vec_items, vec_len, Result, sym, refl, ap, ◌∙◌, subst, inl, inr, arith, length-append, le-leb}
+use Rattle.std.proofs.Common.{◌≡◌, ℕ, ◌+◌, ◌-◌, ◌<◌, ◌≤◌, true, ◌&&◌, ◌⊎◌, List, [], ◌∷◌, ◌++◌, length, take, Ok, Err, vec_items, Result, sym, refl, ap, ◌∙◌, inl, inr, arith, length-append, le-leb}
 use Rattle.std.proofs.lemmas.List.{take_all, drop_at}
 use Rattle.forest.specs.declared.fault.Fault.{Fault}
 use Rattle.forest.specs.declared.fault.Reason.TheVariants.{SpaceShort}
 use Rattle.forest.specs.declared.space.Space.{Space}
 use Rattle.forest.specs.Faults.{faulted}
 use Rattle.forest.specs.Forests.{Item, scalar, element, string, forest, items, tag_lawful}
-use Rattle.forest.specs.Stores.{Meaning, make, when, asked_string, asked_element, less, cost, picked, all_below, item_children}
+use Rattle.forest.specs.Stores.{Meaning, make, when, asked_string, asked_element, less, picked, all_below}
 use Rattle.forest.proofs.Items.{items-forest}
 use Rattle.forest.proofs.Picked.{and_true, length-picked}
 use Rattle.forest.proofs.Making.{made, short}

@@ -1,6 +1,6 @@
 -- The trees that rows stand for.
-use Rattle.std.specs.Prelude.{◌≡◌, ℕ, ◌+◌, Bool, true, false, ◌&&◌, List, [], ◌∷◌, ◌++◌, length, take, drop, nat_le}
-use Rattle.forest.specs.Forests.{Item, scalar, element, integer, string, boolean, forest, integer_lawful, tag_lawful, bytes_lawful}
+use Rattle.std.specs.Prelude.{ℕ, ◌+◌, Bool, true, ◌&&◌, List, [], ◌∷◌, ◌++◌, length, take, drop, nat_le}
+use Rattle.forest.specs.Forests.{Item, scalar, element, integer, string, boolean, forest, integer_lawful, tag_lawful}
 use Rattle.forest.specs.Stores.{picked, all_below}
 use Rattle.arena.specs.declared.row.Row.{Row}
 use Rattle.arena.specs.declared.row.Row.TheVariants.{Boolean, Integer, String, Element}

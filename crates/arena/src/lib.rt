@@ -1,3 +1,5 @@
+#![tactic(auto)]
+
 mod append;
 mod arena;
 mod make;

@@ -1,4 +1,6 @@
 //! Bits kept 64 to a word, in a slice of words.
+#![tactic(auto)]
+
 mod places;
 mod rows;
 mod search;

@@ -1,9 +1,9 @@
 -- Where the children of a capture's trees stand.
-use Rattle.std.proofs.Common.{◌≡◌, ℕ, zero, suc, ◌+◌, ◌*◌, ◌<◌, ◌≤◌, List, [], ◌∷◌, map, length, get_or, sym, refl, ap, ◌∙◌, arith}
+use Rattle.std.proofs.Common.{◌≡◌, ℕ, zero, suc, ◌+◌, ◌*◌, ◌<◌, ◌≤◌, List, [], map, length, get_or, sym, refl, ap, ◌∙◌, arith}
 use lib.ListN.{length-map}
 use Rattle.std.proofs.lemmas.List.{get_or-map}
 use Rattle.forest.proofs.Items.{items-forest}
-use Rattle.forest.specs.Forests.{Item, scalar, element, items, forest}
+use Rattle.forest.specs.Forests.{Item, items, forest}
 use Rattle.forest.specs.Stores.{item_children, children_at, Child}
 use Rattle.capture.specs.declared.event.Event.{Event as BusEvent}
 use Rattle.capture.specs.declared.place.Part.{Part as PartName}

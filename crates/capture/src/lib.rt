@@ -1,3 +1,5 @@
+#![tactic(auto)]
+
 mod capture;
 mod event;
 mod load;

@@ -1,5 +1,5 @@
 -- The tags that a session lists are those that are told.
-use Rattle.std.proofs.Common.{◌≡◌, ℕ, min, List, take, replicate, sym, refl, ap, ◌∙◌, subst}
+use Rattle.std.proofs.Common.{◌≡◌, ℕ, min, List, take, replicate, ap, ◌∙◌, subst}
 use Rattle.answers.specs.Answers.{Said, done, text, refused, malformed, unsupported}
 use Rattle.session.specs.Tables.{ProgramRows}
 use Rattle.session.specs.Tags.{ListsTags, tag_count}

@@ -5,7 +5,7 @@ use Rattle.forest.specs.declared.fault.Fault.{Fault}
 use Rattle.forest.specs.declared.fault.Reason.TheVariants.{BufferShort}
 use Rattle.forest.specs.Faults.{faulted}
 use Rattle.script.specs.Calls.{SessionAsked, text, type, function, arm, expression, body, query, tags, clear}
-use Rattle.session.specs.Calls.{Tables, Change, add_text, add_type, add_function, add_arm, add_expression, set_body, set_query, clear as cleared, applied}
+use Rattle.session.specs.Calls.{Tables, add_text, add_type, add_function, add_arm, add_expression, set_body, set_query, clear as cleared, applied}
 use Rattle.session.specs.Tables.{ProgramRows}
 use Rattle.session.specs.Tags.{ListsTags, tag_count}
 use Rattle.answers.specs.Answers.{Said, done, text as printed, refused, malformed, unsupported}

@@ -1,3 +1,5 @@
+#![tactic(auto)]
+
 mod lines;
 mod on_session;
 

@@ -1,6 +1,6 @@
 -- Lawful forests, item by item.
-use Rattle.std.proofs.Common.{◌≡◌, ℕ, zero, suc, ◌<◌, Bool, true, false, ◌&&◌, ltb, List, [], ◌∷◌, ◌++◌, length, get_or, take, drop, sym, refl, ap, ◌∙◌, arith, w8, Fits, lt-ltb}
-use Rattle.forest.specs.Forests.{Forest, none, leaf, node, Item, scalar, element, items, before, forest, lawful, bytes_lawful, scalar_lawful, tag_lawful}
+use Rattle.std.proofs.Common.{◌≡◌, ℕ, zero, suc, Bool, true, ◌&&◌, ltb, List, [], ◌∷◌, ◌++◌, get_or, take, drop, refl, w8, Fits, lt-ltb}
+use Rattle.forest.specs.Forests.{Forest, none, Item, scalar, element, before, forest, lawful, bytes_lawful, scalar_lawful, tag_lawful}
 use Rattle.forest.specs.Stores.{nothing, picked}
 use Rattle.forest.proofs.Picked.{both, and_true}
 

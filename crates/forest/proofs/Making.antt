@@ -1,11 +1,10 @@
 -- How making ends, by what holds of the space.
-use Rattle.std.proofs.Common.{◌≡◌, ℕ, ◌+◌, ◌-◌, ◌<◌, ◌≤◌, Bool, true, false, ◌&&◌, leb, ◌⊎◌, List, [], ◌∷◌, ◌++◌, map, length, get_or, Some, None, Ok, Err, Option, Result, sym, refl, ap, ◌∙◌, inl, inr, arith, le-leb}
+use Rattle.std.proofs.Common.{◌≡◌, ℕ, ◌<◌, ◌≤◌, Bool, true, false, ◌&&◌, leb, ◌⊎◌, List, [], ◌∷◌, ◌++◌, map, length, get_or, Some, None, Ok, Err, Option, Result, sym, refl, ap, ◌∙◌, inl, inr, arith, le-leb}
 use borrow.Author.Tests.{lt-leb}
 use lib.ListN.{length-map}
 use Rattle.std.proofs.lemmas.List.{map_push, map-append, get_or_push, get_or_append_left}
 use Rattle.forest.specs.declared.fault.Fault.{Fault}
 use Rattle.forest.specs.declared.fault.Reason.TheVariants.{SpaceShort, OutOfRange}
-use Rattle.forest.specs.declared.space.Space.{Space}
 use Rattle.forest.specs.Faults.{faulted}
 use Rattle.forest.specs.Forests.{Item}
 use Rattle.forest.specs.Stores.{Meaning, when, make, make_if, holds, cost, less, grown, item_children, item_text}

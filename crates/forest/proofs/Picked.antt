@@ -1,6 +1,5 @@
 -- The trees that handles name.
-use Rattle.std.proofs.Common.{◌≡◌, ℕ, zero, suc, ◌+◌, ◌<◌, ◌≤◌, Bool, true, false, ◌&&◌, ltb, List, [], ◌∷◌, ◌++◌, length, get_or, take, sym, refl, ap, ◌∙◌, le_of_suc-le-suc, not-suc-le-zero, arith, length-append, length-take, ltb-true, lt-ltb}
-use Rattle.std.proofs.lemmas.List.{get_or_append_left, get_or-take, get_or_default}
+use Rattle.std.proofs.Common.{◌≡◌, ℕ, zero, suc, ◌<◌, ◌≤◌, Bool, true, false, ◌&&◌, ltb, List, [], ◌∷◌, length, get_or, refl, ap, ◌∙◌, le_of_suc-le-suc, not-suc-le-zero, arith, ltb-true, lt-ltb}
 use Rattle.forest.specs.Forests.{Item}
 use Rattle.forest.specs.Stores.{nothing, picked, all_below}
 

@@ -1,5 +1,5 @@
 -- Items and forests: what a capture, a table or a query's result is made of.
-use Rattle.std.specs.Prelude.{ℕ, ◌+◌, max, Bool, true, false, ◌&&◌, List, [], ◌∷◌, ℤ, pos, negsuc, nat_le, nat_lt}
+use Rattle.std.specs.Prelude.{ℕ, ◌+◌, max, Bool, true, ◌&&◌, List, [], ◌∷◌, ℤ, pos, negsuc, nat_le, nat_lt}
 
 pub data Scalar : Type 0 where
   integer : ℤ → Scalar

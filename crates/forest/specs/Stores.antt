@@ -6,7 +6,7 @@ use Rattle.forest.specs.declared.kind.Kind.{Kind}
 use Rattle.forest.specs.declared.kind.Kind.TheVariants.{Absent, Integer, String, Boolean, Element}
 use Rattle.forest.specs.declared.space.Space.{Space}
 use Rattle.forest.specs.Faults.{faulted}
-use Rattle.forest.specs.Forests.{Scalar, integer, string, boolean, Forest, Item, scalar, element, items, before, none, forest, lawful, integer_lawful, tag_lawful}
+use Rattle.forest.specs.Forests.{Scalar, integer, string, boolean, Item, scalar, element, items, forest, lawful, integer_lawful, tag_lawful}
 
 -- A store means a list of trees, one item each, and what it may still take. A handle is a place in the list.
 pub record Meaning : Type 0 where

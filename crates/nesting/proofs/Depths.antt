@@ -3,7 +3,7 @@ use Rattle.std.proofs.Common.{◌≡◌, ℕ, zero, suc, ◌+◌, ◌-◌, ◌<�
 use Rattle.std.proofs.lemmas.Bool.{lt-ltb}
 use Rattle.std.proofs.lemmas.List.{length-set, length-replicate, drop_more, drop_all}
 use Rattle.forest.proofs.Items.{forest-items}
-use Rattle.forest.specs.Forests.{Scalar, integer, string, boolean, Forest, none, leaf, node, Item, scalar, element, items, before, forest, depth}
+use Rattle.forest.specs.Forests.{Scalar, integer, string, boolean, Forest, Item, scalar, element, before, forest, depth}
 use Rattle.forest.specs.declared.kind.Kind.TheVariants.{Element}
 use Rattle.forest.specs.Stores.{nothing, picked, children_at, kind_at, item_kind}
 use Rattle.nesting.specs.Levels.{item_depth, deepest, marked}

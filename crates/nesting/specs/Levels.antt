@@ -1,5 +1,5 @@
 -- Levels of a walk down the trees of a store: a mark for each tree says whether it stands at the level.
-use Rattle.std.specs.Prelude.{ℕ, ◌+◌, max, Bool, true, cond, List, [], ◌∷◌, set, slice_set}
+use Rattle.std.specs.Prelude.{ℕ, ◌+◌, max, Bool, true, cond, List, [], ◌∷◌, slice_set}
 use Rattle.forest.specs.Forests.{Item, scalar, element, depth}
 
 abbrev pub item_depth : Item → ℕ

@@ -1,3 +1,5 @@
+#![tactic(auto)]
+
 mod levels;
 mod marks;
 

@@ -1,11 +1,10 @@
 -- Reading below an overlay's base.
-use Rattle.std.proofs.Common.{◌≡◌, ℕ, zero, suc, ◌+◌, ◌<◌, ◌≤◌, Bool, true, false, cond, eqb, List, [], ◌∷◌, ◌++◌, map, length, get_or, replicate, vec_items, Option, Result, sym, refl, ap, ◌∙◌, arith, eq-eqb, ne_eqb, eqb-true}
-use lib.ListN.{length-map, length-replicate}
+use Rattle.std.proofs.Common.{◌≡◌, ℕ, zero, suc, ◌<◌, Bool, true, false, cond, eqb, List, [], map, length, get_or, replicate, vec_items, Option, Result, sym, refl, ap, ◌∙◌, arith, eq-eqb, ne_eqb, eqb-true}
+use lib.ListN.{length-replicate}
 use Rattle.std.proofs.lemmas.List.{get_or-map, get_or-replicate}
-use Rattle.std.proofs.lemmas.Bool.{cases_eq}
 use Rattle.forest.specs.Forests.{Item, forest, lawful}
 use Rattle.forest.specs.declared.fault.Fault.{Fault}
-use Rattle.forest.specs.Stores.{Meaning, make, nothing, Child, children_at, item_children}
+use Rattle.forest.specs.Stores.{Meaning, make, nothing, Child, item_children}
 use Rattle.forest.proofs.Legal.{legal-before}
 use Rattle.arena.specs.declared.arena.Arena.{Arena}
 use Rattle.arena.specs.Arenas.{trees_over, means_over}

@@ -1,30 +1,34 @@
 //! Reads a script from standard input, a call to a line, and writes an answer to each. A capture file may be named on the command line.
+#![tactic(auto)]
+
+mod stop;
+
 use answers::Answer;
-use anyhow::anyhow;
 use console::answer_line;
 use probe::Probe;
 use session::Session;
 use std::alloc::Global;
 use std::io::{BufRead, BufReader, BufWriter, Write};
 use std::{env, fs, io};
+use stop::Stop;
 
-fn main(rt: HostRuntime) -> anyhow::Result<()> {
+fn main(rt: HostRuntime) -> Result<(), Stop> {
     run(&rt)
 }
 
-fn run(rt: &HostRuntime) -> anyhow::Result<()> {
+fn run(rt: &HostRuntime) -> Result<(), Stop> {
     let name = capture_name(rt)?;
     let probe = begin(rt, rt.alloc(), name)?;
     converse(rt, probe)
 }
 
 /// The capture file that the command line names, if it names one.
-fn capture_name(rt: &HostRuntime) -> anyhow::Result<Option<String>> {
+fn capture_name(rt: &HostRuntime) -> Result<Option<String>, Stop> {
     let mut arguments = env::args(rt)?;
     let _program = arguments.next();
     let name = arguments.next();
     if arguments.next().is_some() || is_option(&name) {
-        return Err(anyhow!("usage: patchprobe [CAPTURE-FILE] < SCRIPT"));
+        return Err(Stop::Usage);
     }
     Ok(name)
 }
@@ -38,15 +42,15 @@ fn is_option(word: &Option<String>) -> bool {
 }
 
 /// The probe to begin with: over the capture in the file of that name, or over the empty table.
-fn begin(rt: &HostRuntime, heap: Global, name: Option<String>) -> anyhow::Result<Probe> {
+fn begin(rt: &HostRuntime, heap: Global, name: Option<String>) -> Result<Probe, Stop> {
     let Ok(probe) = Probe::new(heap) else {
-        return Err(anyhow!("memory is short"));
+        return Err(Stop::OutOfMemory);
     };
     let Some(name) = name else {
         return Ok(probe);
     };
     let Ok(bytes) = fs::read(rt, name.as_str()) else {
-        return Err(anyhow!(format!(in heap; "{name}: cannot be read")?));
+        return Err(Stop::File(format!(in heap; "{name}: cannot be read")?));
     };
     let (probe, answer) = probe.load_capture(heap, &bytes);
     loaded(heap, name.as_str(), answer)?;
@@ -54,21 +58,21 @@ fn begin(rt: &HostRuntime, heap: Global, name: Option<String>) -> anyhow::Result
 }
 
 /// An error where the capture file was not loaded.
-fn loaded(heap: Global, name: &str, answer: Answer) -> anyhow::Result<()> {
+fn loaded(heap: Global, name: &str, answer: Answer) -> Result<(), Stop> {
     match answer {
         Answer::Number(_) => Ok(()),
         Answer::Refused(fault) => {
             let number = fault.reason.number();
             let layer = fault.layer;
             let event = fault.row;
-            Err(anyhow!(format!(in heap; "{name}: refused {number} {layer} {event}")?))
+            Err(Stop::File(format!(in heap; "{name}: refused {number} {layer} {event}")?))
         }
-        _ => Err(anyhow!("memory is short")),
+        _ => Err(Stop::OutOfMemory),
     }
 }
 
 /// Answers each line of standard input.
-fn converse(rt: &HostRuntime, start: Probe) -> anyhow::Result<()> {
+fn converse(rt: &HostRuntime, start: Probe) -> Result<(), Stop> {
     let mut input = BufReader::new(rt.alloc(), rt.stdin())?;
     let mut output = BufWriter::new(rt.alloc(), rt.stdout())?;
     let mut line = Vec::new(rt.alloc());

@@ -1,5 +1,5 @@
 -- Rows that have a forest, found by marking.
-use Rattle.std.proofs.Common.{◌≡◌, ℕ, zero, suc, ◌+◌, ◌<◌, ◌≤◌, Bool, true, false, ◌&&◌, ◌||◌, T, ltb, ◌≢◌, ◌⊎◌, List, [], ◌∷◌, length, set, pos, sym, refl, ap, ◌∙◌, subst, inl, inr, arith, below_more}
+use Rattle.std.proofs.Common.{◌≡◌, ℕ, zero, suc, ◌+◌, ◌<◌, Bool, true, false, ◌&&◌, ◌||◌, T, ltb, ◌≢◌, ◌⊎◌, List, [], ◌∷◌, length, set, pos, sym, refl, subst, inl, inr, arith, below_more}
 use Rattle.std.proofs.lemmas.List.{get_or-set_other, get_or_past}
 use Rattle.std.proofs.lemmas.Bool.{and_parts, cases_eq, cases_lt}
 use Rattle.forest.specs.Forests.{Scalar, integer, string, boolean, Forest, none, leaf, node, tag_lawful}

@@ -14,7 +14,7 @@ use Rattle.types.proofs.Standing.{first-label, meets-first}
 use Rattle.positions.specs.declared.tables.Positions.{Positions}
 use Rattle.positions.specs.Built.{related, MeetsBelow, Built, types_of, top}
 use Rattle.positions.specs.Filling.{Clear, ClearItems}
-use Rattle.positions.proofs.Growing.{exactly, known, shown}
+use Rattle.positions.proofs.Growing.{known, shown}
 use Rattle.positions.proofs.Items.{there}
 
 -- ROOTS

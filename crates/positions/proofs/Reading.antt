@@ -3,14 +3,13 @@ use Rattle.std.proofs.Common.{◌≡◌, ℕ, ◌+◌, ◌<◌, ◌≤◌, Bool,
 use Rattle.std.proofs.lemmas.List.{get_or_past}
 use Rattle.rows.specs.declared.type_row.TypeRow.{TypeRow}
 use Rattle.rows.specs.declared.type_row.TypeRow.TheVariants.{EmptyChoice}
-use Rattle.rows.specs.TypeRows.{owns}
 use Rattle.types.specs.Parts.{row, Root, Lawful, Within, itself, part}
 use Rattle.types.specs.Determinism.{Label, label, First, Last, MeetsAt, in_sequence, in_repetition}
 use Rattle.types.specs.Determinism.First.{item as f-item, of_left, past_left, of_first as f-first, of_second as f-second, of_part as f-part}
 use Rattle.types.specs.Determinism.Last.{item as l-item, of_right, before_right, of_first as l-first, of_second as l-second, of_part as l-part}
-use Rattle.types.specs.Places.{Place, start, behind, FollowsIn, Next, next_first, next_follow, Left, Inhabited, AllInhabited, Useful, useful}
+use Rattle.types.specs.Places.{Place, start, behind, FollowsIn, Next, next_first, next_follow, Inhabited, Useful, useful}
 use Rattle.types.proofs.Rules.{place}
-use Rattle.types.proofs.Contexts.{PartOf, left, right, first, second, repeats, owned, within-left, left_within, low}
+use Rattle.types.proofs.Contexts.{left, right, first, second, repeats, owned, within-left, low}
 use Rattle.positions.specs.declared.tables.Moves.{Moves}
 use Rattle.positions.specs.Built.{flag, related, MeetsBelow, FreeBelow, MovesBelow}
 

@@ -1,9 +1,8 @@
 -- Behind which rows all that is left has a forest.
-use Rattle.std.proofs.Common.{◌≡◌, ℕ, ◌+◌, ◌<◌, ◌≤◌, Bool, true, false, cond, ◌&&◌, T, eqb, List, [], ◌∷◌, length, get_or, sym, refl, ap, ◌∙◌, subst, arith}
+use Rattle.std.proofs.Common.{◌≡◌, ℕ, ◌≤◌, Bool, true, false, cond, ◌&&◌, T, eqb, List, ◌∷◌, length, sym, refl, ap, ◌∙◌, subst, arith}
 use Rattle.forest.specs.Forests.{none}
 use Rattle.rows.specs.declared.type_row.TypeRow.{TypeRow}
 use Rattle.rows.specs.declared.type_row.TypeRow.TheVariants.{EmptyChoice, EmptySequence, Integer, String, Boolean, Element, AnyElement, Sequence, Choice, Repetition}
-use Rattle.rows.specs.TypeRows.{owns}
 use Rattle.types.specs.Parts.{row, Lawful}
 use Rattle.types.specs.Belonging.{no_more}
 use Rattle.types.specs.Places.{left_behind, l_top, l_down, Inhabited, AllInhabited, a_end, a_more}

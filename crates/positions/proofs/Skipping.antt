@@ -1,5 +1,5 @@
 -- A walk along the numbers of which Q holds, in search of one of which P holds too.
-use Rattle.std.proofs.Common.{◌≡◌, ℕ, ◌+◌, ◌<◌, ◌≤◌, ◌⊎◌, sym, refl, subst, inl, inr, arith}
+use Rattle.std.proofs.Common.{ℕ, ◌+◌, ◌<◌, ◌≤◌, subst, inl, inr, arith}
 use Rattle.types.proofs.Rules.{order}
 use Rattle.positions.specs.Finding.{FirstOf}
 

@@ -1,5 +1,5 @@
 -- Walks along the items that may come next.
-use Rattle.std.specs.Prelude.{◌≡◌, ℕ, ◌<◌, ◌≤◌, true}
+use Rattle.std.specs.Prelude.{ℕ, ◌<◌, ◌≤◌}
 
 -- found is the first number from `from` on, below 512, of which P holds, or 512
 pub record FirstOf (P : ℕ → Type 0) (from found : ℕ) : Type 0 where

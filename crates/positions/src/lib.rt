@@ -1,3 +1,5 @@
+#![tactic(auto)]
+
 mod alive;
 mod build;
 mod determinism;

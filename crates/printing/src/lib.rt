@@ -1,3 +1,5 @@
+#![tactic(auto)]
+
 mod items;
 mod output;
 mod scalars;

@@ -1,5 +1,5 @@
 -- A text that fits a buffer fits a longer one, and reads the same.
-use Rattle.std.proofs.Common.{◌≡◌, ℕ, ◌<◌, ◌≤◌, Bool, true, false, cond, ltb, List, [], ◌∷◌, ◌++◌, length, take, drop, replicate, Ok, sym, refl, ap, ◌∙◌, subst, arith, ltb-false, le-ltb}
+use Rattle.std.proofs.Common.{◌≡◌, ℕ, ◌≤◌, Bool, true, false, cond, ltb, List, ◌++◌, length, drop, replicate, Ok, sym, refl, ap, ◌∙◌, subst, arith, ltb-false, le-ltb}
 use lib.ListN.{length-replicate}
 use Rattle.std.proofs.lemmas.List.{take_at}
 use Rattle.forest.specs.declared.fault.Reason.TheVariants.{BufferShort, NestedTooDeep, NoSuchHandle}

@@ -1,6 +1,5 @@
 -- What a probe holds, and how it answers each call.
 use Rattle.std.specs.Prelude.{◌≡◌, ℕ, List, [], ◌∷◌, length, Some, None}
-use Rattle.forest.specs.declared.fault.Fault.{Fault}
 use Rattle.forest.specs.declared.fault.Reason.TheVariants.{UnlawfulCapture}
 use Rattle.forest.specs.declared.space.Space.{Space}
 use Rattle.forest.specs.Faults.{faulted}

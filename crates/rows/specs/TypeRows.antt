@@ -1,5 +1,5 @@
 -- The rows of the type table: what numbers stand for one, when its fields are in range, and which parts it owns.
-use Rattle.std.specs.Prelude.{ℕ, Bool, true, false, cond, not, ◌&&◌, ◌||◌, Some, None, Option, ◌==◌, nat_lt}
+use Rattle.std.specs.Prelude.{ℕ, Bool, true, false, cond, ◌&&◌, ◌||◌, Some, None, Option, ◌==◌, nat_lt}
 use Rattle.std.specs.Bool.{then_some}
 use Rattle.forest.specs.Forests.{tag_lawful}
 use Rattle.rows.specs.declared.type_row.TypeRow.{TypeRow}

@@ -1,3 +1,5 @@
+#![tactic(auto)]
+
 mod arm;
 mod expression;
 mod function;

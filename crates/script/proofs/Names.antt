@@ -11,7 +11,7 @@ use Rattle.fields.specs.Rows.{number8, number32, numbers_of, rows_of}
 use Rattle.fields.specs.Words.{only, first, pair, triple, quintuple, given, Reader}
 use Rattle.script.specs.Calls.{Asked, on_store, on_session, StoreAsked, capture, table, tray, space, integer, boolean, string, element, print, SessionAsked, text, type, function, arm, expression, body, query, tags, clear, word_of, store_word, session_word}
 use Rattle.script.specs.Forms.{Form, forms, look_up, call_of}
-use Rattle.script.specs.Lines.{Line, Named, silent, call_in, call_or_malformed, read_line}
+use Rattle.script.specs.Lines.{Named, silent, call_in, call_or_malformed, read_line}
 use Rattle.script.specs.Patterns.{none, one, two, three, five, one_then}
 
 -- A list of words is read only as calls of one word.

@@ -1,5 +1,5 @@
 -- Setting a function's body.
-use Rattle.std.specs.Prelude.{ℕ, List, set, Some, None, slice_index_or, slice_set}
+use Rattle.std.specs.Prelude.{ℕ, List, Some, None, slice_index_or, slice_set}
 use Rattle.rows.specs.declared.function.Function.{Function}
 
 abbrev pub no_function : Function

@@ -80,8 +80,8 @@ impl Session {
     }
 
     /// Adds a function, which has no body yet.
-    pub fn add_function(&mut self, parameter: u32, res: u32) -> Result<u32, Fault>
-        ensures { (result, tables self.new) ≡ applied (tables self.old) (add_function parameter res) }
+    pub fn add_function(&mut self, parameter: u32, result_type: u32) -> Result<u32, Fault>
+        ensures { (result, tables self.new) ≡ applied (tables self.old) (add_function parameter result_type) }
     {
         let place = self.program.function_count();
         if place >= FUNCTIONS {
@@ -89,7 +89,7 @@ impl Session {
         }
         let function = Function {
             parameter,
-            result: res,
+            result: result_type,
             body: None,
         };
         if !function.fits() {

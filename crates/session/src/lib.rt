@@ -1,3 +1,5 @@
+#![tactic(auto)]
+
 mod arm_table;
 mod calls;
 mod counts;

@@ -1,10 +1,10 @@
 -- A tree that was made is there to be read.
-use Rattle.std.proofs.Common.{◌≡◌, ℕ, ◌+◌, ◌<◌, true, ◌&&◌, List, [], ◌∷◌, ◌++◌, map, length, get_or, ℤ, pos, Some, Ok, Option, Result, sym, refl, ap, ◌∙◌, arith}
+use Rattle.std.proofs.Common.{◌≡◌, ℕ, ◌<◌, ◌&&◌, List, [], ◌∷◌, ◌++◌, map, length, get_or, ℤ, pos, Ok, Option, Result, sym, ap, ◌∙◌, arith}
 use Rattle.std.proofs.lemmas.List.{length_push}
 use Rattle.forest.specs.declared.fault.Fault.{Fault}
 use Rattle.forest.specs.declared.kind.Kind.TheVariants.{Absent, Element}
 use Rattle.forest.specs.Forests.{Item, scalar, element, integer, forest, integer_lawful, tag_lawful}
-use Rattle.forest.specs.Stores.{Meaning, make, asked_integer, asked_element, picked, all_below, item_kind, item_tag, item_children, item_value, kind_at, tag_at, children_at, value_at}
+use Rattle.forest.specs.Stores.{Meaning, make, asked_integer, asked_element, picked, all_below, item_kind, item_tag, item_children, item_value, kind_at, tag_at, children_at}
 use Rattle.forest.proofs.Items.{items-forest}
 use Rattle.forest.proofs.Picked.{length-picked}
 use Rattle.forest.proofs.Making.{Success, success, when-is, reads-new, reads_old}

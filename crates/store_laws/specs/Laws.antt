@@ -1,7 +1,7 @@
 -- What holds of every store, by what reading and making promise alone.
 use Rattle.std.specs.Prelude.{◌≡◌, ℕ, ◌⊎◌, List, [], ◌∷◌, ◌++◌, ℤ, Ok, Err, Result}
 use Rattle.forest.specs.declared.fault.Fault.{Fault}
-use Rattle.forest.specs.Forests.{Item, scalar, integer}
+use Rattle.forest.specs.Forests.{scalar, integer}
 use Rattle.forest.specs.Stores.{Meaning, make, asked_integer, asked_element, value_at}
 
 -- Two Integers were made: both are there to be read, and every tree from before is where it was.

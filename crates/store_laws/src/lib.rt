@@ -1,3 +1,5 @@
+#![tactic(auto)]
+
 ghost use Rattle.std.specs.Prelude.{◌≡◌, ℕ, true, Ok, Err, MatchResult};
 ghost use Rattle.store_laws.specs.Laws.{BothStand, RefusedOne, MadeElement};
 

@@ -1,5 +1,5 @@
 -- What looking at one pair puts, and what it shows.
-use Rattle.std.proofs.Common.{◌≡◌, ℕ, ◌+◌, ◌/◌, ◌%◌, ◌<◌, ◌≤◌, Bool, true, false, cond, ltb, ◌⊎◌, Some, sym, refl, ap, ◌∙◌, subst, inl, inr, arith}
+use Rattle.std.proofs.Common.{◌≡◌, ℕ, ◌+◌, ◌/◌, ◌%◌, ◌<◌, ◌≤◌, Bool, true, false, cond, Some, sym, refl, ap, ◌∙◌, subst, inl, inr, arith}
 use native.Mathlib.Decide.{ℕ_discrete}
 use Rattle.bits.proofs.Laws.{bit-within}
 use Rattle.std.proofs.lemmas.Bool.{lt-ltb, le-ltb}
@@ -11,10 +11,10 @@ use Rattle.positions.specs.Built.{types_of}
 use Rattle.subtyping.specs.declared.pairs.Pairs.{Pairs}
 use Rattle.bits.specs.Bits.{bit}
 use Rattle.bits.specs.Bits.{Next as Bit-next}
-use Rattle.subtyping.specs.Worklist.{Visited, Waiting, Held, Fresh, Grown, Put, Taken, load}
+use Rattle.subtyping.specs.Worklist.{Visited, Held, Fresh, Grown, Put, Taken, load}
 use Rattle.positions.specs.Finding.{FirstOf}
-use Rattle.subtyping.specs.Comparison.{pair, behind_item, right_place, Goes, Answers, Leads, on, into, Steps, step, Answered, AllAnswered, Unanswered, Expanded, all_answered, one_unanswered, moves_at, ends_alike, Passes, Fails, no_end, no_answer, Looked, passed, failed, Reached, first, more, Verdict, alike, unlike}
-use Rattle.subtyping.proofs.Growing.{grown-twice, grown-within, unchanged}
+use Rattle.subtyping.specs.Comparison.{pair, behind_item, right_place, Goes, Answers, Leads, on, into, Steps, step, Answered, AllAnswered, Expanded, all_answered, one_unanswered, moves_at, ends_alike, Passes, no_answer, Looked, passed, failed, Reached, first, more, Verdict, alike, unlike}
+use Rattle.subtyping.proofs.Growing.{grown-twice, unchanged}
 
 never : {A : Type 0} → false ≡ true → A
 never e = let z : ◌≡◌ {A = ℕ} 0 1 = cc in absurd (omega arith)

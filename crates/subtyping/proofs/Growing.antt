@@ -1,11 +1,11 @@
 -- Pairs put into a worklist.
-use Rattle.std.proofs.Common.{◌≡◌, ℕ, ◌+◌, ◌-◌, ◌*◌, ◌<◌, ◌≤◌, Bool, true, false, not, ◌&&◌, ltb, ◌≢◌, ◌⊎◌, List, length, sym, refl, ap, ◌∙◌, subst, inl, inr, arith}
+use Rattle.std.proofs.Common.{◌≡◌, ℕ, ◌<◌, Bool, true, false, not, ◌⊎◌, List, sym, refl, ap, ◌∙◌, inl, inr, arith}
 use native.Mathlib.Decide.{ℕ_discrete}
 use Rattle.std.proofs.lemmas.Bool.{and_from, and_parts, lt-ltb}
 use Rattle.bits.specs.Bits.{bit, size, room, Inserted, Removed}
 use Rattle.bits.proofs.Laws.{size-le}
 use Rattle.subtyping.specs.declared.pairs.Pairs.{Pairs}
-use Rattle.subtyping.specs.Worklist.{Visited, Waiting, load, Held, Grown, Put, Taken}
+use Rattle.subtyping.specs.Worklist.{Visited, Waiting, Held, Grown, Put, Taken}
 
 false-true : {A : Type 0} → false ≡ true → A
 false-true e = let z : ◌≡◌ {A = ℕ} 0 1 = cc in absurd (omega arith)

@@ -1,24 +1,24 @@
 -- What a search over pairs of numbers says of two types.
-use Rattle.std.proofs.Common.{◌≡◌, ℕ, ◌+◌, ◌*◌, ◌/◌, ◌%◌, ◌<◌, ◌≤◌, Bool, true, false, cond, T, ltb, ◌⊎◌, List, length, Some, sym, refl, ap, ◌∙◌, subst, inl, inr, arith}
+use Rattle.std.proofs.Common.{◌≡◌, ℕ, ◌+◌, ◌*◌, ◌/◌, ◌%◌, ◌<◌, ◌≤◌, Bool, true, false, cond, T, ltb, List, length, sym, refl, ap, ◌∙◌, subst, arith}
 use Rattle.std.proofs.lemmas.Bool.{lt-ltb, le-ltb}
 use Rattle.rows.specs.declared.type_row.TypeRow.{TypeRow}
 use Rattle.rows.specs.TypeRows.{owns}
-use Rattle.types.specs.Parts.{row, content, Root, Lawful, Within, itself, part}
+use Rattle.types.specs.Parts.{row, Root, Lawful, Within, itself}
 use Rattle.types.specs.Belonging.{Subtype}
 use Rattle.types.specs.Determinism.{Nullable, Last}
-use Rattle.types.specs.Places.{Place, start, behind, type_of, Next, Ends, end_nothing, end_last, Useful, covers, Reach, r_start, r_on, r_in, Simulates, Checked}
+use Rattle.types.specs.Places.{Place, start, behind, type_of, Next, Ends, end_nothing, end_last, Useful, covers, Reach, r_start, r_on, r_in, Checked}
 use Rattle.types.specs.Tables.{Exactly}
-use Rattle.types.proofs.OfTable.{table-lawful, table-long, content-small}
+use Rattle.types.proofs.OfTable.{table-lawful}
 use Rattle.types.proofs.Labels.{covers-overlaps}
-use Rattle.types.proofs.Sound.{Answer, Closed, closed-subtype}
-use Rattle.types.proofs.Complete.{Declared, subtype_simulates}
+use Rattle.types.proofs.Sound.{Answer, closed-subtype}
+use Rattle.types.proofs.Complete.{subtype_simulates}
 use Rattle.positions.specs.declared.tables.Positions.{Positions}
 use Rattle.positions.specs.declared.tables.Moves.{Moves}
 use Rattle.positions.specs.Built.{flag, related, types_of, top, FreeBelow, MovesBelow, Built}
 use Rattle.positions.proofs.Reading.{true-test, test_true, within_low, one-root, At, at_start, at_item, next-within, next_small, read_next, next-read, read_useful, useful-live, useful-alive}
 use Rattle.subtyping.specs.declared.pairs.Pairs.{Pairs}
 use Rattle.subtyping.specs.Worklist.{Visited}
-use Rattle.subtyping.specs.Comparison.{pair, behind_item, moves_at, right_place, ends_at, ends_left, ends_right, ends_alike, Goes, Answers, Leads, on, into, Steps, step, Answered, Passes, Fails, no_end, no_answer, Reached, first, more, Verdict, alike, unlike}
+use Rattle.subtyping.specs.Comparison.{pair, behind_item, moves_at, right_place, ends_at, ends_left, ends_right, ends_alike, Goes, Answers, Leads, on, into, Steps, step, Passes, Fails, no_end, no_answer, Reached, first, more, Verdict, alike, unlike}
 
 -- numbers of pairs
 

@@ -1,6 +1,5 @@
 -- The search for a difference between two types: over pairs of places, by the tables of positions.
-use Rattle.std.specs.Prelude.{◌≡◌, ℕ, ◌+◌, ◌*◌, ◌/◌, ◌%◌, ◌<◌, ◌≤◌, Bool, true, false, cond, List, Some, None, Option, nat_lt}
-use Rattle.rows.specs.declared.type_row.TypeRow.{TypeRow}
+use Rattle.std.specs.Prelude.{◌≡◌, ℕ, ◌+◌, ◌*◌, ◌/◌, ◌%◌, ◌<◌, Bool, true, false, cond, Some, None, Option, nat_lt}
 use Rattle.types.specs.Parts.{row, content}
 use Rattle.types.specs.Places.{covers}
 use Rattle.positions.specs.declared.tables.Positions.{Positions}

@@ -1,3 +1,5 @@
+#![tactic(auto)]
+
 mod pairs;
 mod search;
 mod sides;

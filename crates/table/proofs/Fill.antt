@@ -1,7 +1,7 @@
 -- Adding a table's rows one by one.
-use Rattle.std.proofs.Common.{◌≡◌, ℕ, ◌+◌, ◌-◌, ◌<◌, ◌≤◌, min, Bool, true, false, cond, List, [], ◌∷◌, ◌++◌, length, get_or, take, drop, Some, None, vec_items, vec_len, Option, sym, refl, ap, ◌∙◌, append_assoc, arith, length-append, le-leb}
+use Rattle.std.proofs.Common.{◌≡◌, ℕ, ◌+◌, ◌-◌, ◌<◌, ◌≤◌, min, Bool, true, false, cond, List, [], ◌∷◌, ◌++◌, length, get_or, drop, Some, vec_items, vec_len, sym, refl, ap, ◌∙◌, append_assoc, arith, length-append, le-leb}
 use Rattle.std.specs.Option.{option_to_list}
-use Rattle.std.proofs.lemmas.List.{at_drop_more, take_more, append-nil}
+use Rattle.std.proofs.lemmas.List.{at_drop_more, append-nil}
 use Rattle.forest.specs.declared.space.Space.{Space}
 use Rattle.forest.specs.declared.fault.Reason.TheVariants.{UnlawfulTable}
 use Rattle.forest.specs.Faults.{faulted}

@@ -1,10 +1,9 @@
 -- An arena as a table's rows are added to it.
-use Rattle.std.specs.Prelude.{◌≡◌, ℕ, ◌+◌, ◌-◌, ◌≤◌, Bool, true, false, List, [], ◌∷◌, ◌++◌, length, take, drop, Some, None, vec_items, vec_len}
-use Rattle.std.specs.Option.{option_to_list}
+use Rattle.std.specs.Prelude.{◌≡◌, ℕ, ◌+◌, Bool, true, false, List, [], ◌∷◌, ◌++◌, length, Some, None, vec_items, vec_len}
 use Rattle.forest.specs.Stores.{less}
 use Rattle.arena.specs.declared.arena.Arena.{Arena}
 use Rattle.table.specs.declared.row.RawRow.{RawRow}
-use Rattle.table.specs.Tables.{row_of, rows_of, row_lawful, first_unlawful}
+use Rattle.table.specs.Tables.{rows_of, row_lawful, first_unlawful}
 
 -- an arena above no trees, with child entries and text, no rows, and space for n rows and nothing else
 pub record Prepared (n : ℕ) (es bs : List ℕ) (a : Arena) : Type 0 where

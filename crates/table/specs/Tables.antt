@@ -1,9 +1,8 @@
 -- When a table is lawful, and the trees that it means.
-use Rattle.std.specs.Prelude.{◌≡◌, ℕ, ◌+◌, Bool, true, false, cond, ◌&&◌, List, [], ◌∷◌, ◌++◌, length, ℤ, pos, negsuc, Some, None, Option, ◌==◌, nat_le}
+use Rattle.std.specs.Prelude.{◌≡◌, ℕ, ◌+◌, Bool, false, cond, ◌&&◌, List, [], ◌∷◌, ◌++◌, length, ℤ, pos, negsuc, Some, None, Option, ◌==◌, nat_le}
 use Rattle.std.specs.Option.{option_to_list}
 use Rattle.forest.specs.declared.fault.Fault.{Fault}
 use Rattle.forest.specs.declared.fault.Reason.TheVariants.{UnlawfulTable}
-use Rattle.forest.specs.declared.space.Space.{Space}
 use Rattle.forest.specs.declared.failure.Failure.{Failure}
 use Rattle.forest.specs.declared.failure.Failure.TheVariants.{Refused, OutOfMemory}
 use Rattle.forest.specs.Faults.{faulted}

@@ -1,3 +1,5 @@
+#![tactic(auto)]
+
 mod load;
 mod row;
 mod table;

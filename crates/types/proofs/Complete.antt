@@ -1,9 +1,9 @@
 -- A subtype of a one-way type simulates in it: one forest shows each item that is needed, and determinism makes every other forest go the same way.
-use Rattle.std.proofs.Common.{◌≡◌, ℕ, ◌<◌, ◌≤◌, true, List, [], ◌∷◌, Some, None, Option, sym, refl, ap, ◌∙◌, subst, arith}
+use Rattle.std.proofs.Common.{◌≡◌, ℕ, ◌<◌, true, List, [], ◌∷◌, Some, None, sym, refl, ap, ◌∙◌, subst, arith}
 use Rattle.forest.specs.Forests.{Scalar, integer, string, boolean, Forest, none, leaf, node, scalar_lawful, tag_lawful}
 use Rattle.rows.specs.declared.type_row.TypeRow.{TypeRow}
 use Rattle.rows.specs.declared.type_row.TypeRow.TheVariants.{Element, AnyElement}
-use Rattle.types.specs.Parts.{row, content, Root, Lawful, Within}
+use Rattle.types.specs.Parts.{row, content, Root}
 use Rattle.types.specs.Belonging.{scalar_row, Belongs, nothing, one_scalar, one_element, any_element, both, by_first, by_second, no_more, one_more, Subtype}
 use Rattle.types.specs.Determinism.{Label, label, overlaps, Deterministic}
 use Rattle.types.specs.Places.{Place, start, behind, type_of, Next, next_first, next_follow, Ends, Left, Inhabited, AllInhabited, Useful, useful, covers, Reach, r_start, r_on, r_in, Covered, Simulates, Checked}
@@ -11,7 +11,7 @@ use Rattle.types.proofs.Owed.{Takes, t_scalar, t_element, t_any, Owed, to_owed, 
 use Rattle.types.proofs.Steps.{Step, Start, ended, went, stepped, none-owed, all-null}
 use Rattle.types.proofs.Steps.{start as begin}
 use Rattle.types.proofs.Contexts.{low, unique, left_within}
-use Rattle.types.proofs.Standing.{Stands, on-start, on-behind, Going, goes, step_of, ends_of, nulls_of, next-label}
+use Rattle.types.proofs.Standing.{Stands, on-start, on-behind, goes, step_of, ends_of, nulls_of, next-label}
 use Rattle.types.proofs.Living.{lives_owed}
 use Rattle.types.proofs.Labels.{covers-overlaps, overlaps-over, scalar-covers, tag_meets}
 use Rattle.types.proofs.Spare.{Spare, spare}

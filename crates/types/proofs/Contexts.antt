@@ -1,14 +1,14 @@
 -- What is left behind a row within another, and how items follow one another there.
-use Rattle.std.proofs.Common.{◌≡◌, ℕ, ◌<◌, ◌≤◌, Bool, true, false, cond, ◌||◌, T, eqb, ◌⊎◌, List, [], ◌∷◌, Some, None, sym, refl, ap, ◌∙◌, subst, inl, inr, arith, eqb→eq}
+use Rattle.std.proofs.Common.{◌≡◌, ℕ, ◌≤◌, Bool, true, false, cond, ◌||◌, T, eqb, ◌⊎◌, List, [], ◌∷◌, sym, refl, ap, ◌∙◌, subst, inl, inr, arith, eqb→eq}
 use lib.Dec.{eqb_refl}
 use Rattle.rows.specs.declared.type_row.TypeRow.{TypeRow}
 use Rattle.rows.specs.declared.type_row.TypeRow.TheVariants.{EmptyChoice, EmptySequence, Integer, String, Boolean, Element, AnyElement, Sequence, Choice, Repetition}
 use Rattle.rows.specs.TypeRows.{owns, twice}
-use Rattle.types.specs.Parts.{row, Root, Lawful, Within, itself, part}
-use Rattle.types.specs.Determinism.{Label, label, Nullable, repeated, First, Last, MeetsAt, in_sequence, in_repetition}
+use Rattle.types.specs.Parts.{row, Lawful, Within, itself, part}
+use Rattle.types.specs.Determinism.{label, Nullable, repeated, Last, in_sequence, in_repetition}
 use Rattle.types.specs.Determinism.Last.{item, of_right, before_right, of_first, of_second, of_part}
 use Rattle.types.specs.Places.{FollowsIn, left_behind, Left, l_top, l_down}
-use Rattle.types.proofs.Steps.{Begins, b_item, b_left, b_right, b_first, b_second, b_part, Step, now, later, Nullables, z_end, z_more, begins_first, first-begins}
+use Rattle.types.proofs.Steps.{Begins, b_item, b_left, b_right, b_first, b_second, b_part, Step, now, later, Nullables, z_more, begins_first}
 
 -- TESTS ON PARTS
 

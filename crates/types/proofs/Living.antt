@@ -1,9 +1,8 @@
 -- Rows that have a forest.
-use Rattle.std.proofs.Common.{◌≡◌, ℕ, List, [], ◌∷◌, sym, refl, ap, ◌∙◌, subst}
+use Rattle.std.proofs.Common.{ℕ, List}
 use Rattle.forest.specs.Forests.{Forest, none, leaf, node}
 use Rattle.rows.specs.declared.type_row.TypeRow.{TypeRow}
-use Rattle.types.specs.Parts.{row}
-use Rattle.types.specs.Belonging.{join, Belongs, one_scalar, one_element, any_element}
+use Rattle.types.specs.Belonging.{join, one_scalar, one_element, any_element}
 use Rattle.types.specs.Places.{Inhabited, AllInhabited, a_end, a_more}
 use Rattle.types.proofs.Owed.{Takes, t_scalar, t_element, t_any, Owed, o_end, owed_more, Parted, p_end, p_more, parted}
 

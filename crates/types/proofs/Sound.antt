@@ -1,16 +1,15 @@
 -- A closed set of pairs of places shows that one type is a subtype of another.
-use Rattle.std.proofs.Common.{◌≡◌, ℕ, true, ◌⊎◌, List, [], ◌∷◌, Some, sym, refl, ap, ◌∙◌, subst, inl, inr}
-use Rattle.forest.specs.Forests.{Scalar, integer, string, boolean, Forest, none, leaf, node, scalar_lawful, tag_lawful}
+use Rattle.std.proofs.Common.{◌≡◌, ℕ, true, List, [], ◌∷◌, Some, sym, refl, ap, ◌∙◌, subst, inl, inr}
+use Rattle.forest.specs.Forests.{Scalar, Forest, none, leaf, node}
 use Rattle.rows.specs.declared.type_row.TypeRow.{TypeRow}
-use Rattle.rows.specs.declared.type_row.TypeRow.TheVariants.{Element, AnyElement}
 use Rattle.types.specs.Parts.{row, content, Lawful}
-use Rattle.types.specs.Belonging.{scalar_row, Belongs, Subtype}
+use Rattle.types.specs.Belonging.{Belongs, Subtype}
 use Rattle.types.specs.Places.{Place, start, behind, type_of, Next, Ends, Useful, useful, covers}
 use Rattle.types.proofs.Owed.{Takes, t_scalar, t_element, t_any, Owed, to_owed, from_owed}
-use Rattle.types.proofs.Steps.{Step, Start, ended, went, stepped, none-owed, all-null}
+use Rattle.types.proofs.Steps.{Step, Start, went, stepped, none-owed, all-null}
 use Rattle.types.proofs.Steps.{start as begin}
 use Rattle.types.proofs.Labels.{covers-scalar, covers-element, covers-any}
-use Rattle.types.proofs.Standing.{Stands, on-start, on-behind, Going, goes, step_of, ends_of, nulls_of}
+use Rattle.types.proofs.Standing.{Stands, on-start, goes, step_of, ends_of, nulls_of}
 use Rattle.types.proofs.Living.{takes_lives, owed_lives}
 
 -- A row that covers another takes what that takes; an element if its content is taken too.

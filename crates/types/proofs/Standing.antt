@@ -1,13 +1,13 @@
 -- Places as lists of rows left to be met.
-use Rattle.std.proofs.Common.{◌≡◌, ℕ, List, [], ◌∷◌, Some, sym, refl, ap, ◌∙◌, subst}
+use Rattle.std.proofs.Common.{◌≡◌, ℕ, List, [], ◌∷◌, Some, refl, ap, ◌∙◌, subst}
 use Rattle.rows.specs.declared.type_row.TypeRow.{TypeRow}
-use Rattle.types.specs.Parts.{row, Lawful, Within}
-use Rattle.types.specs.Determinism.{Label, label, First, Last, MeetsAt, in_sequence, in_repetition}
+use Rattle.types.specs.Parts.{row, Lawful}
+use Rattle.types.specs.Determinism.{Label, label, First, MeetsAt, in_sequence, in_repetition}
 use Rattle.types.specs.Determinism.First.{item as f-item, of_left, past_left, of_first, of_second, of_part}
 use Rattle.types.specs.Determinism.Last.{item as l-item}
-use Rattle.types.specs.Places.{Place, start, behind, type_of, FollowsIn, Next, next_first, next_follow, Ends, end_nothing, end_last, Left, l_top, l_down}
-use Rattle.types.proofs.Steps.{Begins, b_part, Step, now, later, Nullables, z_end, z_more, begins_first, first-begins}
-use Rattle.types.proofs.Contexts.{left_of, part_in, unique, within-left, begins_left, after, ends, Opens, Behind, last_opens}
+use Rattle.types.specs.Places.{Place, start, behind, type_of, Next, next_first, next_follow, Ends, end_nothing, end_last, Left, l_top}
+use Rattle.types.proofs.Steps.{b_part, Step, now, later, Nullables, z_end, z_more, begins_first, first-begins}
+use Rattle.types.proofs.Contexts.{left_of, part_in, unique, within-left, begins_left, after, ends, last_opens}
 
 -- the rows that are left at a place
 pub data Stands (ts : List TypeRow) : Place → List ℕ → Type 0 where

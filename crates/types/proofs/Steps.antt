@@ -1,11 +1,11 @@
 -- Which item a forest that meets a list of rows begins with, and what is left to be met behind it.
-use Rattle.std.proofs.Common.{◌≡◌, ℕ, List, [], ◌∷◌, Some, sym, refl, ap, ◌∙◌, subst}
-use Rattle.forest.specs.Forests.{Scalar, integer, string, boolean, Forest, none, leaf, node}
+use Rattle.std.proofs.Common.{◌≡◌, ℕ, List, [], ◌∷◌, Some, refl, ap, ◌∙◌, subst}
+use Rattle.forest.specs.Forests.{Scalar, integer, string, boolean, Forest, none}
 use Rattle.rows.specs.declared.type_row.TypeRow.{TypeRow}
-use Rattle.rows.specs.declared.type_row.TypeRow.TheVariants.{EmptySequence, Element, AnyElement, Sequence, Choice, Repetition}
+use Rattle.rows.specs.declared.type_row.TypeRow.TheVariants.{Sequence, Choice, Repetition}
 use Rattle.types.specs.Parts.{row}
 use Rattle.types.specs.Belonging.{scalar_row}
-use Rattle.types.specs.Determinism.{Label, kind, tag, any_tag, label, Nullable, empty, repeated, both_parts, first_part, second_part, First, Last}
+use Rattle.types.specs.Determinism.{Label, kind, tag, any_tag, label, Nullable, empty, repeated, both_parts, first_part, second_part, First}
 use Rattle.types.specs.Determinism.First.{item, of_left, past_left, of_first, of_second, of_part}
 use Rattle.types.proofs.Owed.{Takes, t_scalar, t_element, t_any, Owed, o_end, o_empty, o_take, o_both, o_first, o_second, o_stop, o_more}
 

@@ -1,15 +1,13 @@
 -- A walk along a forest, item by item, from place to place of a one-way type.
-use Rattle.std.proofs.Common.{◌≡◌, ℕ, List, [], ◌∷◌, sym, refl, ap, ◌∙◌, subst}
+use Rattle.std.proofs.Common.{◌≡◌, ℕ, List, refl, subst}
 use Rattle.forest.specs.Forests.{Scalar, Forest, none, leaf, node}
 use Rattle.rows.specs.declared.type_row.TypeRow.{TypeRow}
-use Rattle.types.specs.Parts.{row}
-use Rattle.types.specs.Determinism.{overlaps}
-use Rattle.types.specs.Places.{Place, start, behind, type_of, Next, Ends, Checked}
+use Rattle.types.specs.Places.{Place, behind, type_of, Next, Ends, Checked}
 use Rattle.types.proofs.Owed.{Takes, t_scalar, t_element, t_any, Owed}
-use Rattle.types.proofs.Steps.{Step, Start, ended, went, stepped, none-owed, all-null}
+use Rattle.types.proofs.Steps.{Start, went, stepped, none-owed, all-null}
 use Rattle.types.proofs.Steps.{start as begin}
 use Rattle.types.proofs.Standing.{Stands, goes, step_of, ends_of, nulls_of}
-use Rattle.types.proofs.Complete.{Heads, takes_heads, heads_overlap, Rest, rest, Declared, same_next, one_way_at}
+use Rattle.types.proofs.Complete.{Heads, takes_heads, heads_overlap, rest, Declared, same_next, one_way_at}
 
 -- what is left of a forest behind its first item
 pub same_rest : {ts : List TypeRow} {m n : ℕ} {f g h : Forest} → Takes ts m f g → Takes ts n f h → g ≡ h

@@ -1,8 +1,8 @@
 -- The worked small types.
-use Rattle.std.proofs.Common.{◌≡◌, ℕ, zero, suc, true, ◌⊎◌, List, [], ◌∷◌, pos, Some, None, Option, sym, refl, ap, ◌∙◌, subst, inl, inr, arith}
+use Rattle.std.proofs.Common.{◌≡◌, ℕ, zero, suc, true, ◌⊎◌, List, pos, Some, sym, refl, ap, ◌∙◌, subst, inl, inr, arith}
 use Rattle.forest.specs.Forests.{Scalar, integer, string, boolean, Forest, none, leaf, node, tag_lawful}
 use Rattle.rows.specs.declared.type_row.TypeRow.{TypeRow}
-use Rattle.rows.specs.declared.type_row.TypeRow.TheVariants.{Integer, Element, AnyElement, Sequence, Choice, Repetition}
+use Rattle.rows.specs.declared.type_row.TypeRow.TheVariants.{Element, Sequence, Repetition}
 use Rattle.types.specs.Parts.{row}
 use Rattle.types.specs.Belonging.{scalar_row, Belongs, nothing, one_scalar, one_element, any_element, both, by_first, by_second, no_more, one_more}
 use Rattle.types.specs.Determinism.{Label, label, Nullable, empty, repeated, both_parts, first_part, second_part, First, MeetsAt, in_sequence, in_repetition, Deterministic}

@@ -1,3 +1,5 @@
+#![tactic(auto)]
+
 mod items;
 mod roots;
 mod type_rows;

@@ -1,10 +1,10 @@
 -- What is known of the trees of a store, and what a walk along some of them finds.
-use Rattle.std.specs.Prelude.{◌≡◌, ℕ, ◌+◌, ◌*◌, ◌<◌, ◌≤◌, Bool, true, List, length, get_or}
+use Rattle.std.specs.Prelude.{◌≡◌, ℕ, ◌+◌, ◌*◌, ◌<◌, ◌≤◌, true, List}
 use Rattle.forest.specs.Forests.{Item, forest}
-use Rattle.forest.specs.Stores.{children_at, nothing}
+use Rattle.forest.specs.Stores.{children_at}
 use Rattle.rows.specs.declared.type_row.TypeRow.{TypeRow}
 use Rattle.bits.specs.Bits.{bit}
-use Rattle.types.specs.Parts.{Root, Within}
+use Rattle.types.specs.Parts.{Within}
 use Rattle.types.specs.Belonging.{Belongs}
 use Rattle.types.specs.Places.{Place, start, behind, Next}
 use Rattle.validation.specs.Matching.{Admits}

@@ -5,7 +5,7 @@ use Rattle.rows.specs.declared.type_row.TypeRow.{TypeRow}
 use Rattle.rows.specs.declared.type_row.TypeRow.TheVariants.{Element, AnyElement}
 use Rattle.types.specs.Parts.{row}
 use Rattle.types.specs.Belonging.{scalar_row, Belongs}
-use Rattle.types.specs.Determinism.{Label, kind, tag, any_tag, label}
+use Rattle.types.specs.Determinism.{Label, kind, tag, any_tag}
 
 -- a label suits an item of a kind (3 to 6) and a tag, whatever its content
 abbrev pub suits : Option Label → ℕ → ℕ → Bool

@@ -1,4 +1,4 @@
-use Rattle.std.proofs.Common.{◌≡◌, ℕ, sym, ◌∙◌, arith, rules, eq-eqb}
+use Rattle.std.proofs.Common.{◌∙◌, rules, eq-eqb}
 use Rattle.store_laws.proofs.Back.{kind-back, tag_back, count_back}
 use Rattle.store_laws.proofs.make_and_compare.Goals as goal
 

@@ -1,4 +1,4 @@
-use Rattle.std.proofs.Common.{◌≡◌, ◌<◌, ◌∷◌, ◌++◌, length, vec_items, decimal, sym, ap, ◌∙◌, rules}
+use Rattle.std.proofs.Common.{◌≡◌, ◌<◌, ◌∷◌, ◌++◌, length, vec_items, decimal, ap, ◌∙◌, rules}
 use Rattle.answers.proofs.Spaces.{sized-none, sized-some}
 use Rattle.answers.proofs.writer.push_sized.Goals as goal
 use Rattle.answers.proofs.writer.push_sized.Goals.{then-not-is_empty+in_ok-push_word-2, else-not-is_empty}

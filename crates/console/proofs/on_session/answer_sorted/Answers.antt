@@ -1,4 +1,4 @@
-use Rattle.std.proofs.Common.{◌≡◌, length, vec_items, vec_len, rules}
+use Rattle.std.proofs.Common.{vec_items, rules}
 use Rattle.std.proofs.lemmas.List.Sorted.{IsNonDecreasingBy-from_sort}
 use Rattle.console.proofs.on_session.answer_sorted.Goals as goal
 

@@ -1,4 +1,4 @@
-use Rattle.std.proofs.Common.{refl, rules}
+use Rattle.std.proofs.Common.{rules}
 use Rattle.positions.proofs.Fresh.{rows-lawful}
 use Rattle.positions.proofs.build.rows_of.Goals as goal
 

@@ -11,7 +11,7 @@ loop-at-init c = walk_start (Beside c.args.rows.now c.args.item) c.next-at.ensur
 pub loop-at-preserved : goal.loop-at-preserved
 loop-at-preserved c =
     walk_more (Beside c.args.rows.now c.args.item) c.loop-at.invariant c.loop-at-test.true
-    (sym (ap (overlaps c.args.item) c.row-at.ensures) ∙ sym c.if-overlap.ensures) c.next-at-in-loop-at.ensures
+    (sym (ap (overlaps c.args.item) c.row_at.ensures) ∙ sym c.if-overlap.ensures) c.next-at-in-loop-at.ensures
 
 pub returns-then-overlap : goal.returns-then-overlap
 returns-then-overlap c =
@@ -19,7 +19,7 @@ returns-then-overlap c =
     let lt = c.loop-at-test.true in (
       λ x. absurd x,
       λ h. both_ways (overlaps c.args.item (row c.args.rows.now (at % 512))) (h at (c.loop-at.invariant.low lt) lt (c.loop-at.invariant.here lt))
-          (sym (ap (overlaps c.args.item) c.row-at.ensures) ∙ sym c.if-overlap.ensures),
+          (sym (ap (overlaps c.args.item) c.row_at.ensures) ∙ sym c.if-overlap.ensures),
     )
 
 pub returns : goal.returns

@@ -5,21 +5,21 @@ use Rattle.positions.proofs.Growing.{grown-unite, grown-both, grown-row, null_le
 use Rattle.positions.proofs.Items.{part-below}
 use Rattle.positions.proofs.ends.add_ends.Goals as goal
 
-pub returns-then-is-marked : goal.returns-then-is-marked
-returns-then-is-marked c =
+pub returns-then-is_marked : goal.returns-then-is_marked
+returns-then-is_marked c =
     let ws = c.args.words.now in
     let a = c.in-Sequence.first in
     let b = c.in-Sequence.second in
-    grown-row c.args.nullable.now c.in-Sequence.is (λ n. null_left (related ws a n) (related ws b n) c.if-is-marked.ensures)
-    (grown-both ws c.unite.new.words c.unite-then-is-marked.new.words c.args.place a b (omega arith) (omega arith)
-    (part-below c.requires.lower c.in-Sequence.is (left refl)) (part-below c.requires.lower c.in-Sequence.is (right refl)) c.unite.ensures c.unite-then-is-marked.ensures)
+    grown-row c.args.nullable.now c.in-Sequence.is (λ n. null_left (related ws a n) (related ws b n) c.if-is_marked.ensures)
+    (grown-both ws c.unite.new.words c.unite-then-is_marked.new.words c.args.place a b (omega arith) (omega arith)
+    (part-below c.requires.lower c.in-Sequence.is (left refl)) (part-below c.requires.lower c.in-Sequence.is (right refl)) c.unite.ensures c.unite-then-is_marked.ensures)
 
-pub returns-else-is-marked : goal.returns-else-is-marked
-returns-else-is-marked c =
+pub returns-else-is_marked : goal.returns-else-is_marked
+returns-else-is_marked c =
     let ws = c.args.words.now in
     let a = c.in-Sequence.first in
     let b = c.in-Sequence.second in
-    grown-row c.args.nullable.now c.in-Sequence.is (λ n. not_null_left (related ws a n) (related ws b n) c.if-is-marked.ensures)
+    grown-row c.args.nullable.now c.in-Sequence.is (λ n. not_null_left (related ws a n) (related ws b n) c.if-is_marked.ensures)
     (grown-unite ws c.unite.new.words c.args.place a (omega arith) (part-below c.requires.lower c.in-Sequence.is (left refl)) c.unite.ensures)
 
 pub returns-in-Choice : goal.returns-in-Choice

@@ -6,8 +6,8 @@ use Rattle.positions.proofs.Growing.{filled_none, filled_more, filled_all, grown
 use Rattle.positions.proofs.Items.{last_step, last_past, turned-owns}
 use Rattle.positions.proofs.lasts.fill_lasts.Goals as goal
 
-pub add-ends-requires : goal.add-ends-requires
-add-ends-requires c =
+pub add_ends-requires : goal.add_ends-requires
+add_ends-requires c =
     let few = c.requires.lawful.few in
     let k = c.loop-place.place in
     record { few = omega arith; space = omega arith; lower = λ p e. c.requires.lawful.lower k p (turned-owns (row c.args.rows.now k) p (sym (ap (λ w. owns w p) c.turn.ensures) ∙ e)) }
@@ -18,7 +18,7 @@ loop-place-init c = filled_none (Last c.args.rows.now) c.args.lasts.now c.requir
 pub loop-place-preserved : goal.loop-place-preserved
 loop-place-preserved c =
     let k = c.loop-place.place in
-    filled_more (Last c.args.rows.now) c.loop-place.invariant (grown-row c.args.nullable.now (sym c.turn.ensures) (λ n. refl) c.add-ends.ensures)
+    filled_more (Last c.args.rows.now) c.loop-place.invariant (grown-row c.args.nullable.now (sym c.turn.ensures) (λ n. refl) c.add_ends.ensures)
     (λ n l. last_step c.requires.lawful c.args.nullable.now c.requires.nulls c.loop-place.lasts k n l c.loop-place.invariant)
 
 pub returns : goal.returns

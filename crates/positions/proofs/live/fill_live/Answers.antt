@@ -17,7 +17,7 @@ loop-place-preserved c =
     let w : TypeRow = row c.args.rows.now k in
     let own : Bool = flag c.loop-place.live k in
     let next : c.loop-place.place ≡ k + 1 = omega arith in
-    let is : c.give.new.table ≡ given w (left_gift c.args.alive.now w own) own c.loop-place.live = c.give.ensures ∙ ap (λ x. given w x own c.loop-place.live) c.for-left-left.ensures in
+    let is : c.give.new.table ≡ given w (left_gift c.args.alive.now w own) own c.loop-place.live = c.give.ensures ∙ ap (λ x. given w x own c.loop-place.live) c.for_left-left.ensures in
     subst (λ t. Down t k) (sym is)
     (down_more c.requires.lawful c.args.end false (λ r. true) (left_gift c.args.alive.now) c.loop-place.live k c.requires.within (omega arith) (omega arith)
     (subst (Down c.loop-place.live) next c.loop-place.invariant))

@@ -8,7 +8,7 @@ loop-place-init c = nulls_none c.args.rows.now c.args.nullable.now c.requires.em
 pub loop-place-preserved : goal.loop-place-preserved
 loop-place-preserved c =
     let few = c.requires.lawful.few in
-    subst (λ b. Nulls c.args.rows.now (set c.loop-place.nullable c.loop-place.place b) (c.loop-place.place + 1)) (sym c.may-be-nothing.ensures)
+    subst (λ b. Nulls c.args.rows.now (set c.loop-place.nullable c.loop-place.place b) (c.loop-place.place + 1)) (sym c.may_be_nothing.ensures)
     (nulls_more c.requires.lawful c.loop-place.nullable c.loop-place.place (omega arith) c.loop-place.invariant)
 
 pub returns : goal.returns

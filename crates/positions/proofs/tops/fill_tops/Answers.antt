@@ -5,7 +5,7 @@ use Rattle.positions.proofs.Uppermost.{topped}
 use Rattle.positions.proofs.tops.fill_tops.Goals as goal
 
 pub loop-place-init : goal.loop-place-init
-loop-place-init c = down_start c.requires.lawful (length c.args.rows.now) 0 (λ r. r) (λ w x. x) c.start-tops.new.tops c.start-tops.ensures
+loop-place-init c = down_start c.requires.lawful (length c.args.rows.now) 0 (λ r. r) (λ w x. x) c.start_tops.new.tops c.start_tops.ensures
 
 pub loop-place-preserved : goal.loop-place-preserved
 loop-place-preserved c =

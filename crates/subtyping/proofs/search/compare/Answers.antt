@@ -1,5 +1,3 @@
-use Rattle.std.proofs.Common.{◌<◌, arith}
-use Rattle.subtyping.specs.Worklist.{Visited}
 use Rattle.subtyping.proofs.Following.{search_start, search_on, search_fails, search_ends, lighter}
 use Rattle.subtyping.proofs.search.compare.Goals as goal
 

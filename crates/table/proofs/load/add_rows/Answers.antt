@@ -1,10 +1,10 @@
-use Rattle.std.proofs.Common.{◌≡◌, ℕ, ◌+◌, ◌<◌, ◌≤◌, List, [], ◌∷◌, ◌++◌, length, get_or, take, pos, vec_items, vec_len, sym, ap, ◌∙◌, subst, arith}
+use Rattle.std.proofs.Common.{◌≡◌, ℕ, ◌+◌, ◌≤◌, List, [], ◌∷◌, length, get_or, take, pos, vec_items, vec_len, sym, ap, ◌∙◌, subst, arith}
 use Rattle.std.proofs.lemmas.List.{take_more, take_all, at_drop_all, length-take-le}
 use Rattle.arena.specs.declared.arena.Arena.{Arena}
 use Rattle.table.specs.declared.row.RawRow.{RawRow}
 use Rattle.table.specs.Tables.{first_unlawful}
 use Rattle.table.specs.Filling.{Holds}
-use Rattle.table.proofs.Fill.{holds-none, holds_more, went_on, stopped_at}
+use Rattle.table.proofs.Fill.{holds_more, went_on, stopped_at}
 use Rattle.table.proofs.load.add_rows.Goals as goal
 
 -- what a slice of rows reads past its end

@@ -1,4 +1,4 @@
-use Rattle.std.proofs.Common.{sym, arith, below_more}
+use Rattle.std.proofs.Common.{arith, below_more}
 use Rattle.types.proofs.roots.first_unrooted_of.Goals as goal
 
 pub loop-row-preserved : goal.loop-row-preserved

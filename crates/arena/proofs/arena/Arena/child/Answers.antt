@@ -1,4 +1,4 @@
-use Rattle.std.proofs.Common.{◌≡◌, ℕ, ◌+◌, ◌<◌, ◌≤◌, List, get_or, vec_items, sym, ap, ◌∙◌, subst}
+use Rattle.std.proofs.Common.{◌≡◌, ℕ, ◌+◌, get_or, vec_items, sym, ap, ◌∙◌, subst}
 use Rattle.forest.specs.Stores.{Child}
 use Rattle.arena.specs.declared.row.Span.{Span}
 use Rattle.arena.specs.Arenas.{trees_over}

@@ -1,4 +1,4 @@
-use Rattle.std.proofs.Common.{◌≡◌, vec_items, sym, ap, ◌∙◌, arith, rules}
+use Rattle.std.proofs.Common.{vec_items, arith, rules}
 use Rattle.arena.proofs.Builds.{length-built, built-lawful}
 use Rattle.arena.proofs.arena.Arena.count.Goals as goal
 

@@ -1,6 +1,5 @@
-use Rattle.std.proofs.Common.{◌≡◌, ◌+◌, ◌<◌, true, ◌⊎◌, length, vec_items, vec_len, sym, refl, ap, ◌∙◌, inl, inr, arith, rules}
+use Rattle.std.proofs.Common.{◌≡◌, ◌+◌, ◌<◌, ◌⊎◌, length, vec_items, vec_len, sym, refl, ap, ◌∙◌, inl, inr, arith, rules}
 use Rattle.forest.specs.Stores.{all_below}
-use Rattle.arena.specs.Arenas.{trees_over}
 use Rattle.arena.proofs.Trees.{element-made, element-short, element-good}
 use Rattle.arena.proofs.arena.Arena.make_element.Goals as goal
 use Rattle.arena.proofs.arena.Arena.make_element.Goals.{then-self-eq0-via-then-self-eq0, then-self-eq0-via-else-self-eq0+then-children-self}

@@ -1,4 +1,4 @@
-use Rattle.std.proofs.Common.{◌≡◌, vec_items, refl, ap, ◌∙◌, rules}
+use Rattle.std.proofs.Common.{ap, rules}
 use Rattle.forest.specs.Forests.{bytes_lawful}
 use Rattle.arena.specs.Rows.{built, sound}
 use Rattle.arena.proofs.arena.Arena.open.Goals as goal

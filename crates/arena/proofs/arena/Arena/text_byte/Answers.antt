@@ -1,4 +1,4 @@
-use Rattle.std.proofs.Common.{◌≡◌, ◌+◌, get_or, vec_items, sym, ap, ◌∙◌, subst}
+use Rattle.std.proofs.Common.{◌+◌, get_or, sym, ap, ◌∙◌, subst}
 use Rattle.arena.specs.declared.row.Span.{Span}
 use Rattle.arena.proofs.Reading.{Spells, spells, spells_byte, no_byte}
 use Rattle.arena.proofs.arena.Arena.text_byte.Goals as goal

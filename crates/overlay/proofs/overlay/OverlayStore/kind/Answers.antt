@@ -1,4 +1,4 @@
-use Rattle.std.proofs.Common.{length, get_or, sym, ap, ◌∙◌}
+use Rattle.std.proofs.Common.{sym, ◌∙◌}
 use Rattle.forest.specs.Stores.{item_kind}
 use Rattle.forest.specs.declared.kind.Kind.TheVariants.{Absent}
 use Rattle.overlay.specs.Overlays.{lower}

@@ -1,4 +1,4 @@
-use Rattle.std.proofs.Common.{[], length, get_or, sym, ap, ◌∙◌}
+use Rattle.std.proofs.Common.{[], get_or, sym, ap, ◌∙◌}
 use Rattle.forest.specs.Stores.{item_text}
 use Rattle.overlay.specs.Overlays.{lower}
 use Rattle.overlay.proofs.Lower.{length-lower, reads-lower, reads-lost}

@@ -1,5 +1,4 @@
-use Rattle.std.proofs.Common.{◌≡◌, ℕ, ◌+◌, ◌*◌, ◌<◌, ◌≤◌, true, false, ◌⊎◌, sym, ◌∙◌, inl, inr, arith}
-use Rattle.bits.specs.Bits.{bit, room}
+use Rattle.std.proofs.Common.{◌≡◌, ℕ, ◌+◌, ◌*◌, ◌<◌, ◌≤◌, true, ◌⊎◌, inl, inr, arith}
 use Rattle.bits.proofs.Laws.{bit-within}
 use Rattle.positions.specs.declared.tables.Moves.{Moves}
 use Rattle.positions.specs.Built.{related}

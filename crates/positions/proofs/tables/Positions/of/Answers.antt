@@ -3,17 +3,17 @@ use Rattle.bits.proofs.Laws.{bit-zeros}
 use Rattle.positions.proofs.Fresh.{no_flag}
 use Rattle.positions.proofs.tables.Positions.of.Goals as goal
 
-pub fill-nullable-requires : goal.fill-nullable-requires
-fill-nullable-requires c = record { lawful = c.rows-of-rows.ensures.lawful; long = refl; empty = no_flag 512 }
+pub fill_nullable-requires : goal.fill_nullable-requires
+fill_nullable-requires c = record { lawful = c.rows_of-rows.ensures.lawful; long = refl; empty = no_flag 512 }
 
-pub fill-alive-requires : goal.fill-alive-requires
-fill-alive-requires c = record { lawful = c.rows-of-rows.ensures.lawful; long = refl; empty = no_flag 512 }
+pub fill_alive-requires : goal.fill_alive-requires
+fill_alive-requires c = record { lawful = c.rows_of-rows.ensures.lawful; long = refl; empty = no_flag 512 }
 
-pub fill-tops-requires : goal.fill-tops-requires
-fill-tops-requires c = record { lawful = c.rows-of-rows.ensures.lawful; long = refl }
+pub fill_tops-requires : goal.fill_tops-requires
+fill_tops-requires c = record { lawful = c.rows_of-rows.ensures.lawful; long = refl }
 
-pub fill-lasts-requires : goal.fill-lasts-requires
-fill-lasts-requires c = record { lawful = c.rows-of-rows.ensures.lawful; nulls = c.fill-nullable.ensures; long = refl; empty = bit-zeros 4096 }
+pub fill_lasts-requires : goal.fill_lasts-requires
+fill_lasts-requires c = record { lawful = c.rows_of-rows.ensures.lawful; nulls = c.fill_nullable.ensures; long = refl; empty = bit-zeros 4096 }
 
-pub moves-below-whole-requires : goal.moves-below-whole-requires
-moves-below-whole-requires c = record { lawful = c.rows-of-rows.ensures.lawful; within = omega arith }
+pub moves_below-whole-requires : goal.moves_below-whole-requires
+moves_below-whole-requires c = record { lawful = c.rows_of-rows.ensures.lawful; within = omega arith }

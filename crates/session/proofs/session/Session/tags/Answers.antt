@@ -1,6 +1,5 @@
 use Rattle.std.proofs.Common.{◌≤◌, length, arith}
 use Rattle.session.specs.Tables.{program_rows}
-use Rattle.session.specs.Tags.{tag_count}
 use Rattle.session.proofs.Marks.{lists}
 use Rattle.session.proofs.session.Session.tags.Goals as goal
 

@@ -1,4 +1,4 @@
-use Rattle.std.proofs.Common.{◌≡◌, sym, refl, ap, ◌∙◌, subst}
+use Rattle.std.proofs.Common.{sym, refl, ap, ◌∙◌, subst}
 use Rattle.forest.specs.declared.failure.Failure.{Failure}
 use Rattle.table.specs.Tables.{at_row, Fails}
 use Rattle.table.proofs.Fill.{within-limits, full_meaning, same-search}
