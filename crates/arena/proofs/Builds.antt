@@ -131,8 +131,8 @@ length_part s xs w =
     let le = leb-true (s.from + s.length) (length xs) w in
     omega (arith, length-take s.length (drop s.from xs), length-drop s.from xs)
 
-pub get_d_part : {X : Type 0} (s : Span) (xs : List X) (j : ℕ) (d : X) → j < s.length → get_or (part s xs) j d ≡ get_or xs (s.from + j) d
-get_d_part s xs j d lt = get_or-take s.length (drop s.from xs) j d lt ∙ get_or-drop s.from xs j d
+pub get_or-part : {X : Type 0} (s : Span) (xs : List X) (j : ℕ) (d : X) → j < s.length → get_or (part s xs) j d ≡ get_or xs (s.from + j) d
+get_or-part s xs j d lt = get_or-take s.length (drop s.from xs) j d lt ∙ get_or-drop s.from xs j d
 
 pub sound-at : (n : ℕ) (es bs : List ℕ) (rs : List Row) (i : ℕ) (q : Row) → sound n es bs rs ≡ true → i < length rs → row_sound (n + i) es bs (get_or rs i q) ≡ true
 unfolding sound

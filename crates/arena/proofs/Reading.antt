@@ -6,7 +6,7 @@ use Rattle.forest.specs.declared.kind.Kind.TheVariants.{Absent}
 use Rattle.forest.specs.Forests.{Item, tag_lawful}
 use Rattle.forest.specs.Stores.{nothing, picked, all_below, item_kind, item_tag, item_value, item_children, item_text, kind_at, tag_at, value_at, children_at, text_at, Child}
 use Rattle.forest.proofs.Items.{items-forest}
-use Rattle.forest.proofs.Picked.{both, length-picked, get_d_picked, below_at}
+use Rattle.forest.proofs.Picked.{both, length-picked, get_or-picked, below_at}
 use Rattle.arena.specs.declared.arena.Arena.{Arena}
 use Rattle.arena.specs.declared.row.Row.{Row}
 use Rattle.arena.specs.declared.row.Row.TheVariants.{Boolean, Integer, String, Element}
@@ -14,7 +14,7 @@ use Rattle.arena.specs.declared.row.Span.{Span}
 use Rattle.arena.specs.Rows.{part, within, row_item}
 use Rattle.arena.specs.Arenas.{trees_over, Stands, Found}
 use Rattle.arena.specs.Found.{kind_found, tag_found, value_found, children_found, text_found, no_span}
-use Rattle.arena.proofs.Builds.{length_part, get_d_part}
+use Rattle.arena.proofs.Builds.{length_part, get_or-part}
 
 -- by any function of a tree
 reads : {X : Type 0} (f : Item → X) (d : X) (a : Arena) (ts : List Item) (h : ℕ) (r : Row) → Stands a ts h r → get_or (map f (trees_over ts a)) h d ≡ f (row_item (trees_over ts a) (vec_items a.children) (vec_items a.text) r)
@@ -90,12 +90,12 @@ pub names-child : (a : Arena) (ts : List Item) (h j : ℕ) (s : Span) → Names 
 names-child a ts h j s n lt =
     let es = vec_items a.children in
     let us = trees_over ts a in
-    let at = get_d_part s es j 0 lt in
+    let at = get_or-part s es j 0 lt in
     let long = names-long a ts h s n in
     let there : get_or es (s.from + j) 0 < length us = omega (arith, n.below j lt, at) in
     record {
       there = λ _. there;
-      tree = λ d _. get_or_default us _ d nothing there ∙ ap (λ k. get_or us k nothing) (sym at) ∙ sym (get_d_picked us (part s es) j d (omega (arith, length_part s es n.inside))) ∙ ap (λ is. get_or is j d) (sym n.is);
+      tree = λ d _. get_or_default us _ d nothing there ∙ ap (λ k. get_or us k nothing) (sym at) ∙ sym (get_or-picked us (part s es) j d (omega (arith, length_part s es n.inside))) ∙ ap (λ is. get_or is j d) (sym n.is);
       absent = λ le. absurd (omega arith);
     }
 
@@ -123,7 +123,7 @@ pub spells_long : (a : Arena) (ts : List Item) (h : ℕ) (s : Span) → Spells a
 spells_long a ts h s n = sym (length_part s _ n.inside) ∙ sym (ap length n.is)
 
 pub spells_byte : (a : Arena) (ts : List Item) (h j : ℕ) (s : Span) → Spells a ts h s → j < s.length → get_or (vec_items a.text) (s.from + j) 0 ≡ get_or (text_at (trees_over ts a) h) j 0
-spells_byte a ts h j s n lt = sym (get_d_part s _ j 0 lt) ∙ ap (λ bs. get_or bs j 0) (sym n.is)
+spells_byte a ts h j s n lt = sym (get_or-part s _ j 0 lt) ∙ ap (λ bs. get_or bs j 0) (sym n.is)
 
 pub no_byte : (a : Arena) (ts : List Item) (h j : ℕ) (s : Span) → Spells a ts h s → s.length ≤ j → 0 ≡ get_or (text_at (trees_over ts a) h) j 0
 no_byte a ts h j s n le = sym (get_or_past _ j 0 (omega (arith, spells_long a ts h s n)))

@@ -17,10 +17,10 @@ pub length-picked : (ts : List Item) (hs : List ℕ) → length (picked ts hs) �
 length-picked ts [] = refl
 length-picked ts (h ∷ hs) = ap suc (length-picked ts hs)
 
-pub get_d_picked : (ts : List Item) (hs : List ℕ) (j : ℕ) (d : Item) → j < length hs → get_or (picked ts hs) j d ≡ get_or ts (get_or hs j 0) nothing
-get_d_picked ts [] j d lt = absurd (not-suc-le-zero lt)
-get_d_picked ts (h ∷ hs) zero d lt = refl
-get_d_picked ts (h ∷ hs) (suc j) d lt = get_d_picked ts hs j d (le_of_suc-le-suc lt)
+pub get_or-picked : (ts : List Item) (hs : List ℕ) (j : ℕ) (d : Item) → j < length hs → get_or (picked ts hs) j d ≡ get_or ts (get_or hs j 0) nothing
+get_or-picked ts [] j d lt = absurd (not-suc-le-zero lt)
+get_or-picked ts (h ∷ hs) zero d lt = refl
+get_or-picked ts (h ∷ hs) (suc j) d lt = get_or-picked ts hs j d (le_of_suc-le-suc lt)
 
 pub below_at : (n : ℕ) (hs : List ℕ) (j : ℕ) → all_below n hs ≡ true → j < length hs → get_or hs j 0 < n
 below_at n [] j e lt = absurd (not-suc-le-zero lt)

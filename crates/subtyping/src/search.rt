@@ -1,5 +1,5 @@
 ghost use Rattle.std.specs.Prelude.{◌≡◌, ℕ, ◌+◌, ◌<◌, ◌≤◌, true, length, MatchOption};
-ghost use Rattle.types.specs.Parts.{row as row_at, content as contentOf, Root};
+ghost use Rattle.types.specs.Parts.{row as row_at, content as row_content, Root};
 ghost use Rattle.types.specs.Belonging.{Subtype};
 ghost use Rattle.types.specs.Places.{Checked};
 ghost use Rattle.types.specs.Tables.{Exactly};
@@ -14,7 +14,7 @@ use types::content;
 
 /// The content of a row.
 fn content_of(positions: &Positions, row: usize) -> Option<u32>
-    ensures value { result ≡ contentOf (row_at (types_of positions.now) row) }
+    ensures value { result ≡ row_content (row_at (types_of positions.now) row) }
     ensures small { Small result }
 {
     content(positions.types.row(row))

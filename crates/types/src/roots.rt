@@ -1,6 +1,6 @@
 ghost use Rattle.std.specs.Prelude.{◌≡◌, ℕ, ◌<◌, ◌≤◌, true, length};
 ghost use Rattle.rows.specs.TypeRows.{owns};
-ghost use Rattle.types.specs.Parts.{row as row_at, content as contentOf, Root, Rooted, Lawful};
+ghost use Rattle.types.specs.Parts.{row as row_at, content as row_content, Root, Rooted, Lawful};
 ghost use Rattle.types.specs.Tables.{rows_of, Exactly, Lowest};
 
 use crate::type_rows::TypeRows;
@@ -44,7 +44,7 @@ impl TypeRows {
 
 /// The content of an element row.
 pub fn content(row: TypeRow) -> Option<u32>
-    ensures { result ≡ contentOf row }
+    ensures { result ≡ row_content row }
 {
     match row {
         TypeRow::Element { tag: _, content } => Some(content),
