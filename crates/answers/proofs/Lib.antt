@@ -1,1 +1,1 @@
-pub mod Spaces
+mod Lines

@@ -1,6 +1,8 @@
 -- The lines that answer calls.
-use Rattle.std.specs.Prelude.{ℕ, List, [], ◌∷◌, ◌++◌, length, vec_items, codes, decimal}
+use Rattle.std.specs.Prelude.{ℕ, List, [], ◌∷◌, ◌++◌, length, vec_items, codes, decimal, Ok, Err, Result}
 use Rattle.forest.specs.Faults.{number_of}
+use Rattle.forest.specs.declared.failure.Failure.{Failure}
+use Rattle.forest.specs.declared.failure.Failure.TheVariants.{Refused as Refusal, OutOfMemory}
 use Rattle.forest.specs.declared.fault.Fault.{Fault}
 use Rattle.forest.specs.declared.space.Space.{Space}
 use Rattle.answers.specs.declared.answer.Answer.{Answer}
@@ -34,6 +36,20 @@ pub data Said : Type 0 where
 abbrev pub measured : ℕ → Space → List ℕ
 measured n s = n ∷ s.trees ∷ s.children ∷ s.bytes ∷ []
 
+-- a tree or a row that was made is answered by its handle or place
+abbrev pub handle_or_fault : Result ℕ Fault → Said
+handle_or_fault (Ok n) = done (n ∷ [])
+handle_or_fault (Err f) = refused f
+
+-- a change that gives nothing is answered by nothing
+abbrev pub done_or_fault : {X : Type 0} → Result X Fault → Said
+done_or_fault (Ok x) = done []
+done_or_fault (Err f) = refused f
+
+abbrev pub failed : Failure → Said
+failed (Refusal f) = refused f
+failed OutOfMemory = unsupported
+
 abbrev pub said : Answer → Said
 said Done = done []
 said (Number n) = done (n ∷ [])
@@ -43,6 +59,14 @@ said (Printed bs) = text (vec_items bs)
 said (Refused f) = refused f
 said Malformed = malformed
 said Unsupported = unsupported
+
+-- what is said behind the word of a call
+abbrev pub outcome : Said → List ℕ
+outcome (done numbers) = codes "ok" ++ spaced numbers
+outcome (text bytes) = codes "ok" ++ sized bytes
+outcome (refused f) = codes "refused" ++ spaced (fault_numbers f)
+outcome malformed = codes "malformed"
+outcome unsupported = codes "unsupported"
 
 -- The text that answers a call of that word in a line; a malformed line has no word, so `?` stands in its place.
 abbrev pub line_text : ℕ → List ℕ → Said → List ℕ

@@ -1,3 +1,3 @@
 pub mod Rows
-pub mod Found
 pub mod Arenas
+pub mod Renewal

@@ -1,4 +1,4 @@
-ghost use Rattle.std.specs.Prelude.{◌≡◌, ℕ, ◌+◌, ◌<◌, ◌≤◌, true, ◌&&◌, length, vec_len, MatchBool};
+ghost use Rattle.std.specs.Prelude.{◌≡◌, ℕ, ◌+◌, ◌<◌, ◌≤◌, true, ◌&&◌, length, vec_len};
 ghost use Rattle.forest.specs.Stores.{all_below};
 ghost use Rattle.arena.specs.Rows.{within, part};
 ghost use Rattle.arena.specs.Arenas.{Appended, Filled, fits_behind};
@@ -9,38 +9,37 @@ use forest::{handles_in_range, integer_in_range, tag_in_range};
 
 /// Filling an arena row by row, for a store that is loaded whole.
 impl Arena {
-    /// Puts child entries and text behind those that are there, or says false where the space does not hold them.
-    pub fn fill(&mut self, children: &[u32], text: &[u8]) -> bool
+    /// Puts child entries and text behind those that are there. Where the space does not hold them, nothing changes.
+    pub fn fill(&mut self, children: &[u32], text: &[u8]) -> Option<()>
         ensures { Filled self.old children.now text.now result self.new }
     {
         if children.len() > self.space.children as usize || text.len() > self.space.bytes as usize {
-            return false;
+            return None;
         }
         self.put_children(children);
         self.put_text(text);
-        true
+        Some(())
     }
 
-    /// Adds a row, or says false where it is not sound or no space is left.
-    pub fn append(&mut self, row: Row) -> bool
+    /// Adds a row, and gives its handle. Where the row is not sound or no space is left, nothing changes.
+    pub fn append(&mut self, row: Row) -> Option<u32>
         ensures { Appended self.old row result self.new }
     {
-        if self.space.trees == 0 || !self.row_is_sound(row) {
-            return false;
+        if self.space.trees == 0 || !self.is_sound(row) {
+            return None;
         }
-        self.add(row);
-        true
+        Some(self.add(row))
     }
 
     /// Whether a row may stand behind those that are there.
-    fn row_is_sound(&self, row: Row) -> bool
+    fn is_sound(&self, row: Row) -> bool
         ensures { result ≡ fits_behind self.now row }
     {
         match row {
             Row::Boolean(_) => true,
             Row::Integer(value) => integer_in_range(value),
-            Row::String(span) => span_within(span, self.text.len()),
-            Row::Element(tag, span) => tag_in_range(tag as u32) && self.names_lower_trees(span),
+            Row::String(span) => span.is_within(self.text.len()),
+            Row::Element(tag, span) => tag_in_range(u32::from(tag)) && self.names_lower_trees(span),
         }
     }
 
@@ -48,20 +47,7 @@ impl Arena {
     fn names_lower_trees(&self, span: Span) -> bool
         ensures { result ≡ (within span (length self.now.children.items) && all_below (self.now.base + vec_len self.now.rows) (part span self.now.children.items)) }
     {
-        if !span_within(span, self.children.len()) {
-            return false;
-        }
-        let from = span.from as usize;
-        handles_in_range(
-            &self.children[from..from + span.length as usize],
-            self.count(),
-        )
+        span.is_within(self.children.len())
+            && handles_in_range(span.part(&self.children), self.count())
     }
-}
-
-/// Whether a span lies within so many things.
-fn span_within(span: Span, length: usize) -> bool
-    ensures { result ≡ within span length }
-{
-    span.from as usize + span.length as usize <= length
 }

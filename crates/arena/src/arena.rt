@@ -6,7 +6,8 @@ use crate::row::Row;
 use forest::Space;
 
 /// Trees that stand above `base` others, with memory for what may still be made. A child entry is a handle: below `base` one of the
-/// others, from `base` on a row.
+/// others, from `base` on a row. Rows name children by handle and own no boxes: handles are the store's own numbers, trees share parts, and
+/// all memory is taken when the store opens.
 #[derive(Drop)]
 pub struct Arena {
     pub(crate) base: u32,

@@ -5,6 +5,7 @@ mod arena;
 mod make;
 mod open;
 mod read;
+mod renew;
 mod row;
 
 pub use arena::Arena;

@@ -1,5 +1,5 @@
-ghost use Rattle.std.specs.Prelude.{◌≡◌};
-ghost use Rattle.arena.specs.Found.{kind_found, tag_found, value_found, children_found, text_found};
+ghost use Rattle.std.specs.Prelude.{◌≡◌, ℕ, ◌≤◌, true, length};
+ghost use Rattle.arena.specs.Rows.{part, within, row_kind, row_tag, row_value, row_children, row_text};
 
 use forest::Kind;
 
@@ -19,55 +19,75 @@ pub struct Span {
     pub length: u32,
 }
 
-const NOTHING: Span = Span { from: 0, length: 0 };
+impl Row {
+    /// What the row's tree is.
+    pub(crate) fn kind(self) -> Kind
+        ensures { result ≡ row_kind self }
+    {
+        match self {
+            Row::Boolean(_) => Kind::Boolean,
+            Row::Integer(_) => Kind::Integer,
+            Row::String(_) => Kind::String,
+            Row::Element(_, _) => Kind::Element,
+        }
+    }
 
-pub(crate) fn kind_of(row: Option<Row>) -> Kind
-    ensures { result ≡ kind_found row }
-{
-    match row {
-        None => Kind::Absent,
-        Some(Row::Boolean(_)) => Kind::Boolean,
-        Some(Row::Integer(_)) => Kind::Integer,
-        Some(Row::String(_)) => Kind::String,
-        Some(Row::Element(_, _)) => Kind::Element,
+    /// An element's tag; else 0.
+    pub(crate) fn tag(self) -> u16
+        ensures { result ≡ row_tag self }
+    {
+        match self {
+            Row::Element(tag, _) => tag,
+            _ => 0,
+        }
+    }
+
+    /// An Integer's value; of a Boolean 0 or 1; else 0.
+    pub(crate) fn value(self) -> i64
+        ensures { result ≡ row_value self }
+    {
+        match self {
+            Row::Integer(value) => value,
+            Row::Boolean(true) => 1,
+            _ => 0,
+        }
+    }
+
+    /// The part of the child entries that an element names.
+    pub(crate) fn children(self) -> Option<Span>
+        ensures { result ≡ row_children self }
+    {
+        match self {
+            Row::Element(_, children) => Some(children),
+            _ => None,
+        }
+    }
+
+    /// The part of the text that a String names.
+    pub(crate) fn text(self) -> Option<Span>
+        ensures { result ≡ row_text self }
+    {
+        match self {
+            Row::String(text) => Some(text),
+            _ => None,
+        }
     }
 }
 
-pub(crate) fn tag_of(row: Option<Row>) -> u16
-    ensures { result ≡ tag_found row }
-{
-    match row {
-        Some(Row::Element(tag, _)) => tag,
-        _ => 0,
+impl Span {
+    /// Whether the span lies within so many things.
+    pub(crate) fn is_within(self, length: usize) -> bool
+        ensures { result ≡ within self length }
+    {
+        self.from as usize + self.length as usize <= length
     }
-}
 
-pub(crate) fn value_of(row: Option<Row>) -> i64
-    ensures { result ≡ value_found row }
-{
-    match row {
-        Some(Row::Integer(value)) => value,
-        Some(Row::Boolean(true)) => 1,
-        _ => 0,
-    }
-}
-
-/// The part of the child entries that a row names.
-pub(crate) fn children_of(row: Option<Row>) -> Span
-    ensures { result ≡ children_found row }
-{
-    match row {
-        Some(Row::Element(_, children)) => children,
-        _ => NOTHING,
-    }
-}
-
-/// The part of the text that a row names.
-pub(crate) fn text_of(row: Option<Row>) -> Span
-    ensures { result ≡ text_found row }
-{
-    match row {
-        Some(Row::String(text)) => text,
-        _ => NOTHING,
+    /// The things that the span names.
+    pub(crate) fn part<T>(self, items: &[T]) -> &[T]
+        requires { within self (length items.now) ≡ true }
+        ensures { result.now ≡ part self items.now }
+    {
+        let from = self.from as usize;
+        &items[from..from + self.length as usize]
     }
 }

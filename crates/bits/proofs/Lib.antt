@@ -5,3 +5,4 @@ mod Words
 mod Changes
 mod Unions
 mod Walk
+pub mod RowItems

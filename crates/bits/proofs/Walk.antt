@@ -1,9 +1,9 @@
 -- A walk along the words for the next set bit.
-use Rattle.std.proofs.Common.{◌≡◌, ℕ, ◌+◌, ◌-◌, ◌/◌, ◌%◌, ◌^◌, ◌<◌, ◌≤◌, true, false, List, get_or, sym, refl, ap, ◌∙◌, subst, inl, inr, lt_of_le_of_lt, arith}
+use Rattle.std.proofs.Common.{◌≡◌, ℕ, ◌+◌, ◌-◌, ◌/◌, ◌%◌, ◌^◌, ◌<◌, ◌≤◌, true, false, List, get_or, sym, ap, ◌∙◌, subst, inl, inr, lt_of_le_of_lt, arith}
 use lib.Count.{count_trailing_zeros}
 use Rattle.std.proofs.lemmas.Nat.{shr_below, shr_le}
-use Rattle.std.proofs.lemmas.Bool.{cases_lt}
-use Rattle.bits.specs.Bits.{bit, digit, Next}
+use Rattle.std.proofs.lemmas.Bool.{cases_lt, both_ways}
+use Rattle.bits.specs.Bits.{bit, digit}
 use Rattle.bits.proofs.Digits.{digit-none, trailing_here, trailing_below, trailing_within}
 use Rattle.bits.proofs.Words.{bit-from}
 
@@ -16,14 +16,8 @@ pub clear-on : (ws : List ℕ) (from mid past to : ℕ) → to ≤ past → Clea
 clear-on ws from mid past to le before after j l h = elim (cases_lt j mid) [ inl lt ↦ before j l lt | inr ge ↦ after j ge (omega arith) ]
 
 -- nothing found
-pub next-none : (ws : List ℕ) (from to : ℕ) → Clear ws from to → Next ws from to to
-next-none ws from to clear = record {
-  within = omega arith;
-  passed = clear;
-  after = λ h. absurd (omega arith);
-  here = λ h. absurd (omega arith);
-  empty = λ h. refl;
-}
+pub clear-none : (ws : List ℕ) (from to : ℕ) → Clear ws from to → (j : ℕ) → from ≤ j → j < to → bit ws j ≡ true → ⊥
+clear-none ws from to clear j l h e = both_ways _ (clear j l h) e
 
 -- what is left of a word from a place on
 abbrev rest : List ℕ → ℕ → ℕ

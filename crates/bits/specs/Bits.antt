@@ -1,5 +1,6 @@
 -- Bits kept 64 to a word.
-use Rattle.std.specs.Prelude.{◌≡◌, ℕ, zero, suc, ◌+◌, ◌*◌, ◌/◌, ◌%◌, ◌^◌, ◌<◌, ◌≤◌, Bool, true, false, cond, not, ◌&&◌, ◌||◌, ◌≢◌, ◌⊎◌, List, length, ◌==◌, nat_lt, slice_index}
+use Rattle.std.specs.Prelude.{◌≡◌, ℕ, zero, suc, ◌+◌, ◌-◌, ◌*◌, ◌/◌, ◌%◌, ◌^◌, ◌<◌, ◌≤◌, Bool, true, false, cond, not, ◌&&◌, ◌||◌, ◌≢◌, ◌⊎◌, List, length, Some, None, Option, ◌==◌, nat_lt, slice_index}
+use Rattle.std.specs.List.{filter, range_with_len}
 
 -- the bit of a number at a place
 abbrev pub digit : ℕ → ℕ → Bool
@@ -49,10 +50,29 @@ pub record United (old new : List ℕ) (to from : ℕ) : Type 0 where
   pub bits : to * 8 + 8 ≤ length old → from * 8 + 8 ≤ length old → (j : ℕ) → bit new j ≡ (bit old j || (j / 512 == to && bit old (from * 512 + j % 512)))
   pub outside : (length old < to * 8 + 8) ⊎ (length old < from * 8 + 8) → new ≡ old
 
--- the first set bit of the places from `from` on, below `end`; `end` if there is none
-pub record Next (ws : List ℕ) (from end found : ℕ) : Type 0 where
-  pub within : found ≤ end
-  pub passed : (j : ℕ) → from ≤ j → j < found → bit ws j ≡ false
-  pub after : found < end → from ≤ found
-  pub here : found < end → bit ws found ≡ true
-  pub empty : end ≤ from → found ≡ end
+-- found is the first number from `from` on, below `end`, of which P holds
+pub record FoundFirst (P : ℕ → Type 0) (from end found : ℕ) : Type 0 where
+  pub low : from ≤ found
+  pub below : found < end
+  pub before : (j : ℕ) → from ≤ j → j < found → P j → ⊥
+  pub here : P found
+
+-- the first such number, or none where P holds of no number there
+abbrev pub FirstOf : (ℕ → Type 0) → ℕ → ℕ → Option ℕ → Type 0
+FirstOf P from end None = (j : ℕ) → from ≤ j → j < end → P j → ⊥
+FirstOf P from end (Some found) = FoundFirst P from end found
+
+-- RELATIONS: A ROW HAS 512 BITS
+
+-- the item n stands in row r
+abbrev pub related : List ℕ → ℕ → ℕ → Bool
+related ws r n = bit ws (r * 512 + n)
+
+-- the items of row r, from one on
+unfoldable pub row_items : List ℕ → ℕ → ℕ → List ℕ
+row_items ws r from = filter (related ws r) (range_with_len from (512 - from))
+
+-- the first item of the first row that has one; none if no row that has a number of 32 bits has an item
+abbrev pub FirstItem : List ℕ → Option (ℕ × ℕ) → Type 0
+FirstItem ws None = (j : ℕ) → j < 2 ^ 32 * 512 → bit ws j ≡ true → ⊥
+FirstItem ws (Some p) = (p.1 < 512) × FoundFirst (λ j. bit ws j ≡ true) 0 (room ws) (p.0 * 512 + p.1)

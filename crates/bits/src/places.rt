@@ -5,7 +5,9 @@ ghost use Rattle.bits.specs.Bits.{bit, room, Flipped, Inserted, Removed};
 pub fn has(words: &[u64], place: usize) -> bool
     ensures { result ≡ bit words.now place }
 {
-    place / 64 < words.len() && (words[place / 64] >> (place % 64)) % 2 == 1
+    words
+        .get(place / 64)
+        .is_some_and(|word| (*word >> (place % 64)) % 2 == 1)
 }
 
 /// Sets a bit. Answers whether it is there and was not set before.

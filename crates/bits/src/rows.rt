@@ -9,6 +9,7 @@ pub fn unite(words: &mut [u64], to: usize, from: usize)
 {
     let rows = words.len() / ROW;
     if to < rows && from < rows {
+        // Both rows lie in one slice, so their words go by number: two borrows of it would have to be split at the lower row.
         for word in 0..ROW {
             words[to * ROW + word] |= words[from * ROW + word];
         }

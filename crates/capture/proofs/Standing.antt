@@ -1,8 +1,9 @@
 -- Which tree of a capture stands at each place.
-use Rattle.std.proofs.Common.{◌≡◌, ℕ, zero, suc, ◌+◌, ◌-◌, ◌*◌, ◌<◌, ◌≤◌, List, [], ◌∷◌, ◌++◌, map, length, get_or, refl, ap, ◌∙◌, le_of_suc-le-suc, not-suc-le-zero, arith, length-append}
+use Rattle.std.proofs.Common.{◌≡◌, ℕ, zero, suc, ◌+◌, ◌-◌, ◌*◌, ◌<◌, ◌≤◌, List, [], ◌∷◌, ◌++◌, map, length, get_or, Some, None, Option, slice_get, refl, ap, ◌∙◌, le_of_suc-le-suc, not-suc-le-zero, arith, length-append}
 use lib.ListN.{length-map}
 use Rattle.std.specs.List.{flat_map}
 use Rattle.std.proofs.lemmas.List.{get_or_append_left, get_or-append_right, get_or-map, get_or_past}
+use Rattle.std.proofs.lemmas.Option.{slice_get-get_or, slice_get_past}
 use Rattle.forest.specs.Forests.{Item}
 use Rattle.forest.specs.Stores.{item_text, text_at}
 use Rattle.capture.specs.declared.event.Event.{Event as BusEvent}
@@ -10,7 +11,7 @@ use Rattle.capture.specs.declared.event.Switch.TheVariants.{Off}
 use Rattle.capture.specs.declared.place.Part.{Part as PartName}
 use Rattle.capture.specs.declared.place.Part.TheVariants.{Time, Queue, Note, Velocity}
 use Rattle.capture.specs.declared.place.Place.{Place}
-use Rattle.capture.specs.declared.place.Place.TheVariants.{Absent, Capture, Event, Part, Value}
+use Rattle.capture.specs.declared.place.Place.TheVariants.{Capture, Event, Part, Value}
 use Rattle.capture.specs.Events.{number, holding, event_tree, event_trees, capture_tree, capture_trees}
 use Rattle.capture.specs.Places.{part_number, part_tag, part_value, Placed}
 
@@ -58,12 +59,12 @@ abbrev pub blank : BusEvent
 blank = record { time = 0; queue = 0; switch = Off; note = 0; velocity = 0 }
 
 -- what a place reads, by any function of a tree
-abbrev pub read : {Y : Type 0} (f : Item → Y) (y : Y) → List BusEvent → BusEvent → Place → Y
-read f y es e Absent = y
-read f y es e Capture = f (capture_tree es)
-read f y es e (Event k) = f (event_tree (get_or es k e))
-read f y es e (Part k p) = f (holding (part_tag p) (part_value (get_or es k e) p))
-read f y es e (Value k p) = f (number (part_value (get_or es k e) p))
+abbrev pub read : {Y : Type 0} (f : Item → Y) (y : Y) → List BusEvent → BusEvent → Option Place → Y
+read f y es e None = y
+read f y es e (Some Capture) = f (capture_tree es)
+read f y es e (Some (Event k)) = f (event_tree (get_or es k e))
+read f y es e (Some (Part k p)) = f (holding (part_tag p) (part_value (get_or es k e) p))
+read f y es e (Some (Value k p)) = f (number (part_value (get_or es k e) p))
 
 pub few-parts : (p : PartName) → part_number p ≤ 3
 few-parts Time = omega arith
@@ -75,12 +76,23 @@ module _ {Y : Type 0} (f : Item → Y) (y : Y) (es : List BusEvent) (h : ℕ) (e
   mapped : h < 1 + 9 * length es → get_or (map f (capture_trees es)) h y ≡ f (get_or (capture_trees es) h (capture_tree es))
   mapped lt = get_or-map f (capture_trees es) h (capture_tree es) y (omega (arith, long es))
 
-  pub reads : (p : Place) → Placed (length es) h p → get_or (map f (capture_trees es)) h y ≡ read f y es e p
-  reads Absent at = get_or_past (map f (capture_trees es)) h y (omega (arith, long es, length-map (capture_trees es) f))
-  reads Capture at = ap (λ n. get_or (map f (capture_trees es)) n y) at
-  reads (Event k) at = mapped (omega arith) ∙ ap f (at_event es k h e _ at.0 at.1)
-  reads (Part k p) at = mapped (omega (arith, few-parts p)) ∙ ap f (at_part es k h e _ at.0 p at.1)
-  reads (Value k p) at = mapped (omega (arith, few-parts p)) ∙ ap f (at_value es k h e _ at.0 p at.1)
+  pub reads : (p : Option Place) → Placed (length es) h p → get_or (map f (capture_trees es)) h y ≡ read f y es e p
+  reads None at = get_or_past (map f (capture_trees es)) h y (omega (arith, long es, length-map (capture_trees es) f))
+  reads (Some Capture) at = ap (λ n. get_or (map f (capture_trees es)) n y) at
+  reads (Some (Event k)) at = mapped (omega arith) ∙ ap f (at_event es k h e _ at.0 at.1)
+  reads (Some (Part k p)) at = mapped (omega (arith, few-parts p)) ∙ ap f (at_part es k h e _ at.0 p at.1)
+  reads (Some (Value k p)) at = mapped (omega (arith, few-parts p)) ∙ ap f (at_value es k h e _ at.0 p at.1)
+
+  there : h < 1 + 9 * length es → slice_get (map f (capture_trees es)) h ≡ Some (get_or (map f (capture_trees es)) h y)
+  there lt = slice_get-get_or (map f (capture_trees es)) h y (omega (arith, long es, length-map (capture_trees es) f))
+
+  -- the same, or that there is none
+  pub found : (p : Option Place) → Placed (length es) h p → slice_get (map f (capture_trees es)) h ≡ read (λ i. Some (f i)) None es e p
+  found None at = slice_get_past (map f (capture_trees es)) h (omega (arith, long es, length-map (capture_trees es) f))
+  found (Some Capture) at = there (omega arith) ∙ ap Some (reads (Some Capture) at)
+  found (Some (Event k)) at = there (omega arith) ∙ ap Some (reads (Some (Event k)) at)
+  found (Some (Part k p)) at = there (omega (arith, few-parts p)) ∙ ap Some (reads (Some (Part k p)) at)
+  found (Some (Value k p)) at = there (omega (arith, few-parts p)) ∙ ap Some (reads (Some (Value k p)) at)
 
 -- no tree of a capture is a String
 
@@ -102,3 +114,6 @@ textless (x ∷ es) = (refl, (refl, (refl, (refl, (refl, (refl, (refl, (refl, (r
 pub no_text : (es : List BusEvent) (h : ℕ) → text_at (capture_trees es) h ≡ []
 unfolding Textless
 no_text es h = text_of (capture_trees es) h (refl, textless es)
+
+-- how many trees there are, and that none has text
+pub ruleset trees = (long, no_text)

@@ -1,22 +1,18 @@
 ghost use Rattle.std.specs.Prelude.{◌≡◌};
 ghost use Rattle.capture.specs.Events.{switch_tag};
 
-/// Which way a note is switched.
+/// Which way a note is switched, by the tag of an event's element.
 #[derive(Clone, Copy, PartialEq, Eq, Debug)]
 pub enum Switch {
-    Off,
-    On,
+    On = 2,
+    Off = 3,
 }
 
 impl Switch {
-    /// The tag of an event's element.
     pub(crate) fn tag(self) -> u16
         ensures { result ≡ switch_tag self }
     {
-        match self {
-            Switch::On => 2,
-            Switch::Off => 3,
-        }
+        self as u16
     }
 }
 

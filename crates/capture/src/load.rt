@@ -54,31 +54,31 @@ fn read_event(record: &[u8], earliest: u32) -> Option<Event>
     })
 }
 
+// Tables refuse alike. One function for both would be given the reason and the layer, and be `Fault::new` again.
 fn unlawful(index: usize) -> Failure
     requires { index ≤ 1000 }
     ensures { result ≡ Refused (faulted UnlawfulCapture 5 index) }
 {
-    Failure::Refused(Fault {
-        reason: Reason::UnlawfulCapture,
-        layer: <Capture as Store>::LAYER,
-        row: index as u32,
-    })
+    let fault = Fault::new(
+        Reason::UnlawfulCapture,
+        <Capture as Store>::LAYER,
+        index as u32,
+    );
+    Failure::Refused(fault)
 }
 
 impl Capture {
     /// Reads the events in order, and refuses at the first that is unlawful.
-    pub fn load(heap: Global, bytes: &[u8]) -> Result<Capture, Failure>
+    pub fn load(alloc: Global, bytes: &[u8]) -> Result<Capture, Failure>
         ensures { Loaded bytes.now result }
     {
-        let mut events = Vec::new(heap);
+        let mut events = Vec::new(alloc);
         let mut earliest = 0;
         for (index, record) in bytes.chunks(RECORD_SIZE).enumerate() {
             if index >= MAX_EVENTS {
                 return Err(unlawful(index));
             }
-            let Some(event) = read_event(record, earliest) else {
-                return Err(unlawful(index));
-            };
+            let event = read_event(record, earliest).ok_or(unlawful(index))?;
             earliest = event.time;
             events.push(event)?;
         }

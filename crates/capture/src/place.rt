@@ -9,7 +9,6 @@ pub(crate) const TREES_PER_EVENT: u32 = 9;
 /// What stands at a handle of a capture. Events go by their number.
 #[derive(Clone, Copy)]
 pub(crate) enum Place {
-    Absent,
     Capture,
     Event(usize),
     Part(usize, Part),
@@ -17,25 +16,23 @@ pub(crate) enum Place {
     Value(usize, Part),
 }
 
-/// A part of an event's element.
+/// A part of an event's element, by its tag.
 #[derive(Clone, Copy)]
 pub(crate) enum Part {
-    Time,
-    Queue,
-    Note,
-    Velocity,
+    Time = 4,
+    Queue = 5,
+    Note = 6,
+    Velocity = 7,
 }
+
+/// The parts in their order.
+pub(crate) const PARTS: [Part; 4] = [Part::Time, Part::Queue, Part::Note, Part::Velocity];
 
 impl Part {
     pub(crate) fn tag(self) -> u16
         ensures { result ≡ part_tag self }
     {
-        match self {
-            Part::Time => 4,
-            Part::Queue => 5,
-            Part::Note => 6,
-            Part::Velocity => 7,
-        }
+        self as u16
     }
 
     /// The number that this part of an event holds.
@@ -52,25 +49,24 @@ impl Part {
 }
 
 /// The place that a handle names in a capture of `event_count` events.
-pub(crate) fn place_at(handle: u32, event_count: usize) -> Place
+pub(crate) fn place_at(handle: u32, event_count: usize) -> Option<Place>
     ensures { Placed event_count handle result }
 {
     if handle == 0 {
-        return Place::Capture;
+        return Some(Place::Capture);
     }
     let index = ((handle - 1) / TREES_PER_EVENT) as usize;
     if index >= event_count {
-        return Place::Absent;
+        return None;
     }
-    match (handle - 1) % TREES_PER_EVENT {
-        0 => Place::Event(index),
-        1 => Place::Part(index, Part::Time),
-        2 => Place::Value(index, Part::Time),
-        3 => Place::Part(index, Part::Queue),
-        4 => Place::Value(index, Part::Queue),
-        5 => Place::Part(index, Part::Note),
-        6 => Place::Value(index, Part::Note),
-        7 => Place::Part(index, Part::Velocity),
-        _ => Place::Value(index, Part::Velocity),
+    let within = (handle - 1) % TREES_PER_EVENT;
+    if within == 0 {
+        return Some(Place::Event(index));
     }
+    let part = PARTS[((within - 1) / 2) as usize];
+    Some(if within % 2 == 1 {
+        Place::Part(index, part)
+    } else {
+        Place::Value(index, part)
+    })
 }

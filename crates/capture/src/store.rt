@@ -3,7 +3,7 @@ ghost use Rattle.capture.specs.Captures.{meaning};
 ghost use Rattle.capture.specs.Places.{Placed};
 
 use crate::capture::Capture;
-use crate::place::{Place, TREES_PER_EVENT, place_at};
+use crate::place::{PARTS, Place, TREES_PER_EVENT, place_at};
 use forest::{
     Fault, Kind, Space, Store, boolean_in_range, handles_in_range, integer_in_range,
     refuse_without_space, tag_in_range,
@@ -12,11 +12,8 @@ use forest::{
 /// The tag of a capture's element.
 const CAPTURE_TAG: u16 = 1;
 
-/// The number of parts of an event.
-const PART_COUNT: u32 = 4;
-
 impl Capture {
-    fn place(&self, handle: u32) -> Place
+    fn place(&self, handle: u32) -> Option<Place>
         ensures { Placed (length self.now.events.items) handle result }
     {
         place_at(handle, self.events.len())
@@ -24,16 +21,13 @@ impl Capture {
 }
 
 /// A capture as a store: the trees of its events, and no space to make any.
+#[tactic(auto, using(crate::proofs::Standing::trees))]
 impl Store for Capture {
     const LAYER: u8 = 5;
 
-    ghost layer = { 5 };
+    ghost LAYER = { 5 };
 
     ghost means = { meaning };
-
-    fn layer_number() -> u8 {
-        Self::LAYER
-    }
 
     fn count(&self) -> u32 {
         1 + TREES_PER_EVENT * self.events.len() as u32
@@ -47,49 +41,57 @@ impl Store for Capture {
         }
     }
 
-    fn kind(&self, handle: u32) -> Kind {
-        match self.place(handle) {
-            Place::Absent => Kind::Absent,
-            Place::Capture | Place::Event(_) | Place::Part(_, _) => Kind::Element,
-            Place::Value(_, _) => Kind::Integer,
+    fn kind(&self, handle: u32) -> Option<Kind> {
+        match self.place(handle)? {
+            Place::Capture | Place::Event(_) | Place::Part(_, _) => Some(Kind::Element),
+            Place::Value(_, _) => Some(Kind::Integer),
         }
     }
 
     fn tag(&self, handle: u32) -> u16 {
-        match self.place(handle) {
+        let Some(place) = self.place(handle) else {
+            return 0;
+        };
+        match place {
             Place::Capture => CAPTURE_TAG,
             Place::Event(index) => self.events[index].switch.tag(),
             Place::Part(_, part) => part.tag(),
-            Place::Absent | Place::Value(_, _) => 0,
+            Place::Value(_, _) => 0,
         }
     }
 
     fn child_count(&self, handle: u32) -> u32 {
-        match self.place(handle) {
+        let Some(place) = self.place(handle) else {
+            return 0;
+        };
+        match place {
             Place::Capture => self.events.len() as u32,
-            Place::Event(_) => PART_COUNT,
+            Place::Event(_) => PARTS.len() as u32,
             Place::Part(_, _) => 1,
-            Place::Absent | Place::Value(_, _) => 0,
+            Place::Value(_, _) => 0,
         }
     }
 
     fn child(&self, handle: u32, index: u32) -> u32 {
+        let Some(place) = self.place(handle) else {
+            return 0;
+        };
         if index >= self.child_count(handle) {
             return 0;
         }
-        match self.place(handle) {
+        match place {
             Place::Capture => 1 + TREES_PER_EVENT * index,
             Place::Event(_) => handle + 1 + 2 * index,
             Place::Part(_, _) => handle + 1,
-            Place::Absent | Place::Value(_, _) => 0,
+            Place::Value(_, _) => 0,
         }
     }
 
     fn value(&self, handle: u32) -> i64 {
-        match self.place(handle) {
-            Place::Value(index, part) => i64::from(part.value(&self.events[index])),
-            _ => 0,
-        }
+        let Some(Place::Value(index, part)) = self.place(handle) else {
+            return 0;
+        };
+        i64::from(part.value(&self.events[index]))
     }
 
     fn text_length(&self, _handle: u32) -> u32 {

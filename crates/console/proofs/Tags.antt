@@ -1,15 +1,22 @@
 -- The tags that a session lists are those that are told.
-use Rattle.std.proofs.Common.{◌≡◌, ℕ, min, List, take, replicate, ap, ◌∙◌, subst}
-use Rattle.answers.specs.Answers.{Said, done, text, refused, malformed, unsupported}
+use Rattle.std.proofs.Common.{◌≡◌, ℕ, min, List, ◌∷◌, length, take, replicate, sym, ap, subst, ◌∙◌, arith, length-take}
+use Rattle.std.specs.List.Sorted.{IsPermutation, IsNonDecreasing}
+use Rattle.answers.specs.Answers.{done}
 use Rattle.session.specs.Tables.{ProgramRows}
-use Rattle.session.specs.Tags.{ListsTags, tag_count}
-use Rattle.console.specs.OnSession.{TagsSorted, TagsTold}
+use Rattle.session.specs.Tags.{ListsTags}
+use Rattle.console.specs.OnSession.{TagsTold}
 
-pub told : (p : ProgramRows) (places n : ℕ) (list items : List ℕ) (s : Said) → ListsTags p n (replicate (min places 640) 0) list → items ≡ take n list → TagsSorted items s → TagsTold p places s
-told p places n list items (done ns) l e t =
-    let first : items ≡ take (tag_count p) list = e ∙ ap (λ k. take k list) l.number in
-    (list, subst (λ (k : ℕ). ListsTags p k (replicate (min places 640) 0) list) l.number l, subst (λ (ts : List ℕ). TagsSorted ts (done ns)) first t)
-told p places n list items (text bs) l e t = t
-told p places n list items (refused f) l e t = absurd t
-told p places n list items malformed l e t = t
-told p places n list items unsupported l e t = tt
+-- `kept` are the places of the list that were filled, and `numbers` is what is told
+pub told : (p : ProgramRows) (places n : ℕ) (before list kept sorted numbers : List ℕ) → before ≡ replicate (min places 640) 0 → ListsTags p n before list → kept ≡ take n list → IsPermutation kept sorted → IsNonDecreasing sorted → numbers ≡ n ∷ sorted → TagsTold p places (done numbers)
+told p places n before list kept sorted numbers zeros lists filled permutes rises is =
+    let named = lists.number in
+    let whole : length (take n list) ≡ n = omega (arith, length-take n list, lists.long, lists.there) in (
+      list,
+      subst (λ (k : ℕ). ListsTags p k (replicate (min places 640) 0) list) named (subst (λ (b : List ℕ). ListsTags p n b list) zeros lists),
+      (
+        sorted,
+        subst (λ (ts : List ℕ). IsPermutation ts sorted) (filled ∙ ap (λ k. take k list) named) permutes,
+        rises,
+        is ∙ ap (λ k. k ∷ sorted) (sym whole ∙ ap (λ k. length (take k list)) named),
+      ),
+    )

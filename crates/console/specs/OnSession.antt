@@ -1,5 +1,6 @@
 -- How a call on a session is answered.
-use Rattle.std.specs.Prelude.{◌≡◌, ℕ, ◌<◌, min, List, [], ◌∷◌, length, take, replicate, Ok, Err, Result}
+use Rattle.std.specs.Prelude.{◌≡◌, ℕ, ◌<◌, min, List, ◌∷◌, length, take, replicate, Vec, vec_items, Ok, Err, Result}
+use Rattle.forest.specs.declared.failure.Failure.{Failure}
 use Rattle.std.specs.List.Sorted.{IsPermutation, IsNonDecreasing}
 use Rattle.forest.specs.declared.fault.Fault.{Fault}
 use Rattle.forest.specs.declared.fault.Reason.TheVariants.{BufferShort}
@@ -8,20 +9,15 @@ use Rattle.script.specs.Calls.{SessionAsked, text, type, function, arm, expressi
 use Rattle.session.specs.Calls.{Tables, add_text, add_type, add_function, add_arm, add_expression, set_body, set_query, clear as cleared, applied}
 use Rattle.session.specs.Tables.{ProgramRows}
 use Rattle.session.specs.Tags.{ListsTags, tag_count}
-use Rattle.answers.specs.Answers.{Said, done, text as printed, refused, malformed, unsupported}
-use Rattle.probe.specs.Performing.{handle_or_fault}
+use Rattle.answers.specs.Answers.{Said, done, text as printed, refused, malformed, unsupported, handle_or_fault, done_or_fault, failed}
 
 -- an add is answered by the place that it filled
 abbrev pub with_place : Result ℕ Fault × Tables → Said × Tables
 with_place r = (handle_or_fault r.0, r.1)
 
 -- other changes are answered by nothing
-abbrev pub quiet_or_fault : Result ℕ Fault → Said
-quiet_or_fault (Ok n) = done []
-quiet_or_fault (Err f) = refused f
-
 abbrev pub without_place : Result ℕ Fault × Tables → Said × Tables
-without_place r = (quiet_or_fault r.0, r.1)
+without_place r = (done_or_fault r.0, r.1)
 
 -- the number of some tags and then the tags, rising
 abbrev pub TagsSorted : List ℕ → Said → Type 0
@@ -39,15 +35,20 @@ TagsTold p places (printed bs) = ⊥
 TagsTold p places malformed = ⊥
 TagsTold p places unsupported = Unit {0}
 
+-- a list of numbers, or why there is none
+abbrev pub numbers_or_failure : {Z : Type 0} → Result (Vec ℕ Z) Failure → Said
+numbers_or_failure (Ok ns) = done (vec_items ns)
+numbers_or_failure (Err f) = failed f
+
 -- How a call is answered, and what the session holds then.
 abbrev pub Told : SessionAsked → Tables → Said → Tables → Type 0
 Told (text bs) t s u = (s, u) ≡ with_place (applied t (add_text bs))
-Told (type k a b) t s u = (s, u) ≡ with_place (applied t (add_type k a b))
+Told (type row) t s u = (s, u) ≡ with_place (applied t (add_type row))
 Told (function p r) t s u = (s, u) ≡ with_place (applied t (add_function p r))
-Told (arm k tag row) t s u = (s, u) ≡ with_place (applied t (add_arm k tag row))
-Told (expression k a b c d) t s u = (s, u) ≡ with_place (applied t (add_expression k a b c d))
+Told (arm given) t s u = (s, u) ≡ with_place (applied t (add_arm given))
+Told (expression row) t s u = (s, u) ≡ with_place (applied t (add_expression row))
 Told (body f row) t s u = (s, u) ≡ without_place (applied t (set_body f row))
-Told (query i row) t s u = (s, u) ≡ without_place (applied t (set_query i row))
+Told (query given) t s u = (s, u) ≡ without_place (applied t (set_query given))
 Told (tags places) t s u = TagsTold t.program places s × (u ≡ t)
 Told clear t s u = (s, u) ≡ without_place (applied t cleared)
 
@@ -55,12 +56,12 @@ Told clear t s u = (s, u) ≡ without_place (applied t cleared)
 abbrev pub MayLackMemory : SessionAsked → Type 0
 MayLackMemory (tags places) = Unit {0}
 MayLackMemory (text bs) = ⊥
-MayLackMemory (type k a b) = ⊥
+MayLackMemory (type row) = ⊥
 MayLackMemory (function p r) = ⊥
-MayLackMemory (arm k tag row) = ⊥
-MayLackMemory (expression k a b c d) = ⊥
+MayLackMemory (arm given) = ⊥
+MayLackMemory (expression row) = ⊥
 MayLackMemory (body f row) = ⊥
-MayLackMemory (query i row) = ⊥
+MayLackMemory (query given) = ⊥
 MayLackMemory clear = ⊥
 
 -- The call was performed; where memory is short the session is as it was.

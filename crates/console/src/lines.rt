@@ -15,8 +15,10 @@ use session::Session;
 use std::alloc::{AllocError, Global};
 
 /// Reads a line of a script, performs its call on the session or on the store, and gives the text that answers it, if it is answered.
+// The session is lent, and the probe is passed on, since a call may put another store in its place: a struct of both would be passed
+// on too, and each line would copy the session's tables.
 pub fn answer_line(
-    heap: Global,
+    alloc: Global,
     session: &mut Session,
     probe: Probe,
     number: u64,
@@ -24,28 +26,26 @@ pub fn answer_line(
 ) -> Result<(Probe, Option<Vec<u8>>), AllocError>
     ensures { IfOk result (λ p. Replies number (read_line line.now) (record { rows = tables session.old; store = state probe }) (option_map vec_items p.1) (record { rows = tables session.new; store = state p.0 })) }
 {
-    match read_call(heap, line)? {
+    match read_call(alloc, line)? {
         Reading::Silent => Ok((probe, None)),
-        Reading::Malformed => Ok((
-            probe,
-            Some(write_answer(heap, number, b"", &Answer::Malformed)?),
-        )),
+        Reading::Malformed => {
+            let text = write_answer(alloc, number, b"", &Answer::Malformed)?;
+            Ok((probe, Some(text)))
+        }
         Reading::Call(call) => {
-            let (next, answer) = perform(heap, session, probe, &call);
-            let text = write_answer(heap, number, call.word(), &answer)?;
+            let (next, answer) = perform(alloc, session, probe, &call);
+            let text = write_answer(alloc, number, call.word().as_bytes(), &answer)?;
             Ok((next, Some(text)))
         }
     }
 }
 
-fn perform(heap: Global, session: &mut Session, probe: Probe, call: &Call) -> (Probe, Answer)
+/// Performs a call on the store or on the session.
+fn perform(alloc: Global, session: &mut Session, probe: Probe, call: &Call) -> (Probe, Answer)
     ensures { Does (asked call.now) (record { rows = tables session.old; store = state probe }) (said result.1) (record { rows = tables session.new; store = state result.0 }) }
 {
     match call {
-        Call::Store(call) => probe.perform(heap, call),
-        Call::Session(call) => {
-            let answer = perform_on_session(heap, session, call);
-            (probe, answer)
-        }
+        Call::Store(call) => probe.perform(alloc, call),
+        Call::Session(call) => (probe, perform_on_session(alloc, session, call)),
     }
 }

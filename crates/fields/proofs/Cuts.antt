@@ -1,50 +1,42 @@
--- Bytes cut into pieces, byte by byte.
-use Rattle.std.proofs.Common.{◌≡◌, ℕ, ◌+◌, ◌<◌, ◌≤◌, cond, List, [], ◌∷◌, ◌++◌, length, get_or, take, drop, sym, ap, ◌∙◌, append_assoc, arith, Bor}
-use native.Mathlib.Nat.{sub_self}
-use Rattle.std.specs.List.{between}
-use Rattle.std.proofs.lemmas.List.Edits.{between_more}
-use Rattle.std.proofs.lemmas.List.{at_drop_more, at_drop_all, map_push}
-use Rattle.std.proofs.lemmas.Bool.{eq-eqb, ne_eqb}
-use Rattle.fields.specs.Lists.{pieces_after, texts}
+-- Bytes cut into pieces: those that the library's `split` gives.
+use Rattle.std.proofs.Common.{◌≡◌, ℕ, ◌<◌, Bool, cond, true, false, eqb, List, [], ◌∷◌, ◌++◌, length, Bor, refl, sym, ap, subst, ◌∙◌, append_assoc, append-nil, arith}
+use denote.Param.Members.{Mut}
+use Rattle.std.specs.Fn.{CalledAt}
+use Rattle.std.specs.List.{slice_split, onto_first}
+use Rattle.std.specs.Slice.Iter.{split_steps, split_rest, split_done, split_callee}
+use Rattle.std.proofs.lemmas.Iterator.{YieldsList}
+use Rattle.std.proofs.lemmas.Iterator.Splits.{YieldsList-from_slice_split}
+use Rattle.std.proofs.lemmas.List.Splits.{length-slice_split}
+use Rattle.fields.specs.Lists.{pieces, pieces_after}
 
--- all pieces, where some are found and one began at start
-abbrev pub cuts : ℕ → List ℕ → List (Bor (List ℕ)) → ℕ → ℕ → List (List ℕ)
-cuts s bs found start i = texts found ++ pieces_after s (between start i bs) (drop i bs)
+-- pieces, the first of them behind a piece that has begun
+abbrev behind : List ℕ → List (List ℕ) → List (List ℕ)
+behind piece [] = piece ∷ []
+behind piece (p ∷ ps) = (piece ++ p) ∷ ps
 
-module _ (s : ℕ) (bs : List ℕ) (found : List (Bor (List ℕ))) (start i : ℕ) (lt : i < length bs) where
-  -- a separator ends the piece
-  pub cut : (more grown : List (Bor (List ℕ))) (piece : Bor (List ℕ)) (next : ℕ) → more ≡ grown → grown ≡ found ++ (piece ∷ []) → piece.now ≡ between start i bs → next ≡ i + 1 → get_or bs i 0 ≡ s → cuts s bs more next (i + 1) ≡ cuts s bs found start i
-  cut more grown piece next same pushed part after is =
-      let ts = texts found in
-      let p = between start i bs in
-      let rest = drop (i + 1) bs in
-      let empty : between next (i + 1) bs ≡ [] = ap (λ n. between n (i + 1) bs) after ∙ ap (λ n. take n rest) (sub_self (i + 1)) in
-      ap (λ xs. texts xs ++ pieces_after s (between next (i + 1) bs) rest) (same ∙ pushed)
-      ∙ ap (λ xs. xs ++ pieces_after s (between next (i + 1) bs) rest) (map_push (λ x. x.now) found piece)
-      ∙ append_assoc ts (piece.now ∷ []) (pieces_after s (between next (i + 1) bs) rest)
-      ∙ ap (λ x. ts ++ (x ∷ pieces_after s (between next (i + 1) bs) rest)) part
-      ∙ ap (λ e. ts ++ (p ∷ pieces_after s e rest)) empty
-      ∙ ap (λ t. ts ++ cond t (p ∷ pieces_after s [] rest) (pieces_after s (p ++ (get_or bs i 0 ∷ [])) rest)) (sym (eq-eqb (get_or bs i 0) s is))
-      ∙ ap (λ ps. ts ++ ps) (sym (at_drop_more (pieces_after s p) bs i 0 lt))
+behind-first : (piece : List ℕ) (b : ℕ) (ps : List (List ℕ)) → behind (piece ++ (b ∷ [])) ps ≡ behind piece (onto_first b ps)
+behind-first piece b [] = refl
+behind-first piece b (p ∷ ps) = ap (λ q. q ∷ ps) (append_assoc piece (b ∷ []) p)
 
-  -- any other byte belongs to it
-  pub kept : (same : List (Bor (List ℕ))) (from : ℕ) → same ≡ found → from ≡ start → start ≤ i → (get_or bs i 0 ≡ s → ⊥) → cuts s bs same from (i + 1) ≡ cuts s bs found start i
-  kept same from unmoved unchanged le not =
-      let ts = texts found in
-      let p = between start i bs in
-      let rest = drop (i + 1) bs in
-      ap (λ xs. cuts s bs xs from (i + 1)) unmoved
-      ∙ ap (λ n. cuts s bs found n (i + 1)) unchanged
-      ∙ ap (λ x. ts ++ pieces_after s x rest) (between_more bs start i 0 le lt)
-      ∙ ap (λ t. ts ++ cond t (p ∷ pieces_after s [] rest) (pieces_after s (p ++ (get_or bs i 0 ∷ [])) rest)) (sym (ne_eqb (get_or bs i 0) s not))
-      ∙ ap (λ ps. ts ++ ps) (sym (at_drop_more (pieces_after s p) bs i 0 lt))
+behind-nil : (ps : List (List ℕ)) → 0 < length ps → behind [] ps ≡ ps
+behind-nil [] lt = absurd (omega arith)
+behind-nil (p ∷ ps) lt = refl
 
--- no byte is left: the last piece ends
-pub cut_last : (s : ℕ) (bs : List ℕ) (found more : List (Bor (List ℕ))) (piece : Bor (List ℕ)) (start i : ℕ) → more ≡ found ++ (piece ∷ []) → piece.now ≡ between start (length bs) bs → i ≡ length bs → texts more ≡ cuts s bs found start i
-cut_last s bs found more piece start i pushed part all =
-    let ts = texts found in
-    ap texts pushed
-    ∙ map_push (λ x. x.now) found piece
-    ∙ ap (λ x. ts ++ (x ∷ [])) part
-    ∙ ap (λ n. ts ++ (between start n bs ∷ [])) (sym all)
-    ∙ ap (λ ps. ts ++ ps) (sym (at_drop_all (pieces_after s (between start i bs)) bs i (omega arith)))
+module _ (s : ℕ) where
+  pieces_after-cuts : (piece bs : List ℕ) → pieces_after s piece bs ≡ behind piece (slice_split (λ b. eqb b s) bs)
+  pieces_after-cuts piece [] = ap (λ q. q ∷ []) (sym (append-nil piece))
+  pieces_after-cuts piece (b ∷ bs) =
+      let more = slice_split (λ b. eqb b s) bs in
+      let whole : pieces_after s [] bs ≡ more = pieces_after-cuts [] bs ∙ behind-nil more (omega (arith, length-slice_split (λ b. eqb b s) bs)) in
+      elim (eqb b s) as (λ t. cond t (piece ∷ pieces_after s [] bs) (pieces_after s (piece ++ (b ∷ [])) bs) ≡ behind piece (cond t ([] ∷ more) (onto_first b more))) [
+        | true ↦ ap (λ q. q ∷ pieces_after s [] bs) (sym (append-nil piece)) ∙ ap (λ ps. (piece ++ []) ∷ ps) whole
+        | false ↦ pieces_after-cuts (piece ++ (b ∷ [])) bs ∙ behind-first piece b more
+      ]
+
+  pieces-slice_split : (bs : List ℕ) → pieces s bs ≡ slice_split (λ b. eqb b s) bs
+  pieces-slice_split bs = pieces_after-cuts [] bs ∙ behind-nil (slice_split (λ b. eqb b s) bs) (omega (arith, length-slice_split (λ b. eqb b s) bs))
+
+  -- `split` gives the pieces, where its closure tests for the separator
+  pub YieldsList-pieces : {F : Type 0} {i : _} (g : Mut F (Bor ℕ × Unit {0}) Bool) (bs : List ℕ) → split_rest i ≡ bs → split_done i ≡ false → ((x : ℕ) (b : Bool) (q : F) → CalledAt g (split_callee i) x b q → (q ≡ split_callee i) × (b ≡ eqb x s)) → YieldsList (split_steps g) (λ x. x.now) i (pieces s bs)
+  YieldsList-pieces {i = i} g bs rest done tests =
+      subst (YieldsList (split_steps g) (λ x. x.now) i) (sym (pieces-slice_split bs)) (YieldsList-from_slice_split g (λ b. eqb b s) bs rest done refl tests)

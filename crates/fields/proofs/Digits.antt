@@ -1,10 +1,12 @@
 -- A number digit by digit.
-use Rattle.std.proofs.Common.{◌≡◌, ℕ, ◌+◌, ◌-◌, ◌*◌, ◌^◌, ◌<◌, ◌≤◌, Bool, true, false, cond, leb, List, [], ◌∷◌, length, get_or, take, drop, pos, neg_ℤ, Some, None, refl, ap, ⊎_elim, arith}
-use Rattle.std.specs.Option.{option_map}
+use Rattle.std.proofs.Common.{◌≡◌, ℕ, ◌+◌, ◌-◌, ◌*◌, ◌<◌, true, false, cond, leb, List, [], ◌∷◌, length, Some, None, refl, ap, ⊎_elim, arith}
 use Rattle.std.specs.Bool.{then_some}
-use Rattle.std.proofs.lemmas.Bool.{lt-leb, leb-true, leb-false, cases_Bool, eq-eqb}
-use Rattle.std.proofs.lemmas.List.{take_rest}
-use Rattle.fields.specs.Numbers.{is_digit, digits_after, at_most, number, signed_number}
+use Rattle.std.proofs.lemmas.Bool.{lt-leb, leb-false, cases_Bool}
+use Rattle.fields.specs.Numbers.{is_digit, digits_after, at_most, number}
+
+-- the greatest number of 64 bits
+abbrev pub most : ℕ
+most = 18446744073709551615
 
 -- a number past the limit stays past it
 pub past : (limit n : ℕ) (bs : List ℕ) → limit < n → at_most limit (digits_after n bs) ≡ None
@@ -13,20 +15,6 @@ past limit n (b ∷ bs) lt =
     elim (is_digit b) as (λ t. at_most limit (cond t (digits_after (n * 10 + (b - 48)) bs) None) ≡ None) [
       | true ↦ past limit (n * 10 + (b - 48)) bs (omega arith)
       | false ↦ refl
-    ]
-
--- what a test lets through is what was tested
-pub when-some : (t : Bool) (k m : ℕ) → Some m ≡ then_some t k → (t ≡ true) × (k ≡ m)
-when-some true k m e = (refl, cc)
-when-some false k m e = (cc, cc)
-
--- One digit more, within the limit.
-pub one_more : (limit n m b : ℕ) (bs : List ℕ) → Some m ≡ at_most limit (digits_after n (b ∷ [])) → (digits_after n (b ∷ bs) ≡ digits_after m bs) × (m ≤ limit)
-one_more limit n m b bs =
-    let k = n * 10 + (b - 48) in
-    elim (is_digit b) as (λ t. Some m ≡ at_most limit (cond t (Some k) None) → (cond t (digits_after k bs) None ≡ digits_after m bs) × (m ≤ limit)) [
-      | true ↦ λ e. let w = when-some (leb k limit) k m e in (ap (λ x. digits_after x bs) w.1, omega (arith, leb-true k limit w.0, w.1))
-      | false ↦ λ e. let z : ◌≡◌ {A = ℕ} 0 1 = cc in absurd (omega arith)
     ]
 
 -- No digit, or the limit is passed: then what follows does not matter.
@@ -42,9 +30,3 @@ none_more limit n b bs =
 pub number-some : (limit : ℕ) (word : List ℕ) → 0 < length word → number limit word ≡ at_most limit (digits_after 0 word)
 number-some limit [] lt = absurd (omega arith)
 number-some limit (b ∷ bs) lt = refl
-
--- a word that begins with a minus sign
-pub minus : (word : List ℕ) → get_or word 0 0 ≡ 45 → signed_number word ≡ option_map (λ n. neg_ℤ (pos n)) (number (2 ^ 63) (take (length word - 1) (drop 1 word)))
-minus [] e = absurd (omega arith)
-minus (b ∷ bs) e =
-    rw take_rest (ap (λ t. cond t (option_map (λ n. neg_ℤ (pos n)) (number (2 ^ 63) bs)) (option_map pos (number (2 ^ 63 - 1) (b ∷ bs)))) (eq-eqb b 45 e))

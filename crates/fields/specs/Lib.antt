@@ -3,3 +3,4 @@ pub mod Numbers
 pub mod Bytes
 pub mod Words
 pub mod Rows
+pub mod Reading

@@ -1,10 +1,13 @@
-ghost use Rattle.std.specs.Prelude.{◌≡◌, IfOk, vec_items};
-ghost use Rattle.std.specs.Option.{option_map};
+ghost use Rattle.std.specs.Prelude.{◌≡◌, vec_items};
 ghost use Rattle.fields.specs.Bytes.{hex_digit, hex_byte, hex_pairs, bytes_of};
+ghost use Rattle.fields.specs.Reading.{Reads};
 
-use std::alloc::{AllocError, Global};
+use crate::read_error::ReadError;
+use std::alloc::Global;
 
 /// The value of a hexadecimal digit of either case.
+// The kit's crate `hex` would read a whole word, but then no edit could turn the value of a digit, and the project keeps that edit.
+// `char::to_digit` needs a conversion on either side, and is no shorter.
 fn read_digit(byte: u8) -> Option<u8>
     ensures { result ≡ hex_digit byte }
 {
@@ -20,39 +23,30 @@ fn read_digit(byte: u8) -> Option<u8>
 fn read_byte(high: u8, low: u8) -> Option<u8>
     ensures { result ≡ hex_byte high low }
 {
-    match (read_digit(high), read_digit(low)) {
-        (Some(high), Some(low)) => Some(16 * high + low),
-        _ => None,
-    }
+    Some(16 * read_digit(high)? + read_digit(low)?)
 }
 
 /// The bytes that pairs of digits write.
-fn read_pairs(heap: Global, digits: &[u8]) -> Result<Option<Vec<u8>>, AllocError>
-    ensures { IfOk result (λ o. option_map vec_items o ≡ hex_pairs digits.now) }
+fn read_pairs(alloc: Global, digits: &[u8]) -> Result<Vec<u8>, ReadError>
+    ensures { Reads vec_items (hex_pairs digits.now) result }
 {
-    let mut bytes = Vec::with_capacity(heap, digits.len() / 2)?;
-    let mut rest = digits;
-    while let [high, low, more @ ..] = rest {
-        let Some(byte) = read_byte(*high, *low) else {
-            return Ok(None);
+    let mut bytes = Vec::with_capacity(alloc, digits.len() / 2)?;
+    for pair in digits.chunks(2) {
+        let [high, low] = pair else {
+            return Err(ReadError::Malformed);
         };
-        bytes.push(byte)?;
-        rest = more;
+        bytes.push(read_byte(*high, *low).ok_or(ReadError::Malformed)?)?;
     }
-    if rest.is_empty() {
-        Ok(Some(bytes))
-    } else {
-        Ok(None)
-    }
+    Ok(bytes)
 }
 
 /// The bytes that a word stands for.
-pub fn read_bytes(heap: Global, word: &[u8]) -> Result<Option<Vec<u8>>, AllocError>
-    ensures { IfOk result (λ o. option_map vec_items o ≡ bytes_of word.now) }
+pub fn read_bytes(alloc: Global, word: &[u8]) -> Result<Vec<u8>, ReadError>
+    ensures { Reads vec_items (bytes_of word.now) result }
 {
     match word {
-        [] => Ok(None),
-        b"-" => Ok(Some(Vec::new(heap))),
-        _ => read_pairs(heap, word),
+        [] => Err(ReadError::Malformed),
+        b"-" => Ok(Vec::new(alloc)),
+        _ => read_pairs(alloc, word),
     }
 }

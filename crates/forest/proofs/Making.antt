@@ -1,5 +1,5 @@
 -- How making ends, by what holds of the space.
-use Rattle.std.proofs.Common.{◌≡◌, ℕ, ◌<◌, ◌≤◌, Bool, true, false, ◌&&◌, leb, ◌⊎◌, List, [], ◌∷◌, ◌++◌, map, length, get_or, Some, None, Ok, Err, Option, Result, sym, refl, ap, ◌∙◌, inl, inr, arith, le-leb}
+use Rattle.std.proofs.Common.{◌≡◌, ℕ, ◌<◌, ◌≤◌, Bool, true, false, leb, ◌⊎◌, List, [], ◌∷◌, ◌++◌, map, length, get_or, Some, None, Ok, Err, Option, Result, sym, refl, ap, ◌∙◌, inl, inr, arith, le-leb}
 use borrow.Author.Tests.{lt-leb}
 use lib.ListN.{length-map}
 use Rattle.std.proofs.lemmas.List.{map_push, map-append, get_or_push, get_or_append_left}
@@ -8,28 +8,20 @@ use Rattle.forest.specs.declared.fault.Reason.TheVariants.{SpaceShort, OutOfRang
 use Rattle.forest.specs.Faults.{faulted}
 use Rattle.forest.specs.Forests.{Item}
 use Rattle.forest.specs.Stores.{Meaning, when, make, make_if, holds, cost, less, grown, item_children, item_text}
-use Rattle.forest.proofs.Picked.{and_true}
-
-and_false_right : (a b : Bool) → b ≡ false → (a && b) ≡ false
-and_false_right true b e = e
-and_false_right false b e = refl
-
-and_false_left : (a b : Bool) → a ≡ false → (a && b) ≡ false
-and_false_left true b e = ap (λ x. x && b) e
-and_false_left false b e = refl
+use Rattle.std.proofs.lemmas.Bool.{and_from, and_left, and_right}
 
 -- one tree more
 pub made : (l : ℕ) (m n : Meaning) (i : Item) (h : ℕ) → 1 ≤ m.space.trees → length (item_children i) ≤ m.space.children → length (item_text i) ≤ m.space.bytes → h ≡ length m.trees → n.trees ≡ m.trees ++ (i ∷ []) → n.space ≡ less m.space (cost i) → ◌≡◌ {A = Result ℕ Fault × Meaning} (Ok h, n) (make l (Some i) m)
 made l m n i h a b c at ts sp =
-    let fits : holds m.space (cost i) ≡ true = and_true _ _ (le-leb 1 m.space.trees a) (and_true _ _ (le-leb (length (item_children i)) m.space.children b) (le-leb (length (item_text i)) m.space.bytes c)) in
+    let fits : holds m.space (cost i) ≡ true = and_from _ _ (le-leb 1 m.space.trees a) (and_from _ _ (le-leb (length (item_children i)) m.space.children b) (le-leb (length (item_text i)) m.space.bytes c)) in
     let is : n ≡ grown m i = ap (λ xs. record { trees = xs; space = n.space }) ts ∙ ap (λ s. record { trees = m.trees ++ (i ∷ []); space = s }) sp in
     ap (λ k. (Ok k, n)) at ∙ ap (λ k. (Ok (length m.trees), k)) is ∙ sym (ap (λ t. make_if t l i m) fits)
 
 -- space short
 pub short : (l : ℕ) (m : Meaning) (i : Item) → (m.space.trees < 1) ⊎ ((m.space.children < length (item_children i)) ⊎ (m.space.bytes < length (item_text i))) → ◌≡◌ {A = Result ℕ Fault × Meaning} (Err (faulted SpaceShort l 0), m) (make l (Some i) m)
-short l m i (inl lt) = sym (ap (λ t. make_if t l i m) (and_false_left _ _ (lt-leb 1 m.space.trees lt)))
-short l m i (inr (inl lt)) = sym (ap (λ t. make_if t l i m) (and_false_right (leb 1 m.space.trees) _ (and_false_left _ _ (lt-leb (length (item_children i)) m.space.children lt))))
-short l m i (inr (inr lt)) = sym (ap (λ t. make_if t l i m) (and_false_right (leb 1 m.space.trees) _ (and_false_right (leb (length (item_children i)) m.space.children) _ (lt-leb (length (item_text i)) m.space.bytes lt))))
+short l m i (inl lt) = sym (ap (λ t. make_if t l i m) (and_left _ _ (lt-leb 1 m.space.trees lt)))
+short l m i (inr (inl lt)) = sym (ap (λ t. make_if t l i m) (and_right (leb 1 m.space.trees) _ (and_left _ _ (lt-leb (length (item_children i)) m.space.children lt))))
+short l m i (inr (inr lt)) = sym (ap (λ t. make_if t l i m) (and_right (leb 1 m.space.trees) _ (and_right (leb (length (item_children i)) m.space.children) _ (lt-leb (length (item_text i)) m.space.bytes lt))))
 
 -- What a call that made a tree tells.
 pub record Success (o : Option Item) (m n : Meaning) (h : ℕ) : Type 0 where

@@ -1,17 +1,8 @@
 -- The trees that handles name.
-use Rattle.std.proofs.Common.{◌≡◌, ℕ, zero, suc, ◌<◌, ◌≤◌, Bool, true, false, ◌&&◌, ltb, List, [], ◌∷◌, length, get_or, refl, ap, ◌∙◌, le_of_suc-le-suc, not-suc-le-zero, arith, ltb-true, lt-ltb}
+use Rattle.std.proofs.Common.{◌≡◌, ℕ, zero, suc, ◌<◌, ◌≤◌, true, ltb, List, [], ◌∷◌, length, get_or, refl, ap, ◌∙◌, le_of_suc-le-suc, not-suc-le-zero, arith, ltb-true, lt-ltb}
+use Rattle.std.proofs.lemmas.Bool.{and_from, and_parts}
 use Rattle.forest.specs.Forests.{Item}
 use Rattle.forest.specs.Stores.{nothing, picked, all_below}
-
--- both parts of a test that came out true
-pub both : (a b : Bool) → (a && b) ≡ true → (a ≡ true) × (b ≡ true)
-both true true e = (refl, refl)
-both true false e = (refl, e)
-both false b e = (e, absurd (let z : ◌≡◌ {A = ℕ} 0 1 = cc in omega arith))
-
-pub and_true : (a b : Bool) → a ≡ true → b ≡ true → (a && b) ≡ true
-and_true true b e f = f
-and_true false b e f = e
 
 pub length-picked : (ts : List Item) (hs : List ℕ) → length (picked ts hs) ≡ length hs
 length-picked ts [] = refl
@@ -24,19 +15,19 @@ get_or-picked ts (h ∷ hs) (suc j) d lt = get_or-picked ts hs j d (le_of_suc-le
 
 pub below_at : (n : ℕ) (hs : List ℕ) (j : ℕ) → all_below n hs ≡ true → j < length hs → get_or hs j 0 < n
 below_at n [] j e lt = absurd (not-suc-le-zero lt)
-below_at n (h ∷ hs) zero e lt = ltb-true h n (both (ltb h n) (all_below n hs) e).0
-below_at n (h ∷ hs) (suc j) e lt = below_at n hs j (both (ltb h n) (all_below n hs) e).1 (le_of_suc-le-suc lt)
+below_at n (h ∷ hs) zero e lt = ltb-true h n (and_parts (ltb h n) (all_below n hs) e).0
+below_at n (h ∷ hs) (suc j) e lt = below_at n hs j (and_parts (ltb h n) (all_below n hs) e).1 (le_of_suc-le-suc lt)
 
 pub below_mono : (m n : ℕ) (hs : List ℕ) → m ≤ n → all_below m hs ≡ true → all_below n hs ≡ true
 below_mono m n [] le e = refl
 below_mono m n (h ∷ hs) le e =
-    let p = both (ltb h m) (all_below m hs) e in
+    let p = and_parts (ltb h m) (all_below m hs) e in
     let lt = ltb-true h m p.0 in
-    and_true _ _ (lt-ltb h n (omega arith)) (below_mono m n hs le p.1)
+    and_from _ _ (lt-ltb h n (omega arith)) (below_mono m n hs le p.1)
 
 -- lists that agree below n pick alike
 pub picked_same : (n : ℕ) (ts us : List Item) (hs : List ℕ) → ((h : ℕ) → h < n → get_or ts h nothing ≡ get_or us h nothing) → all_below n hs ≡ true → picked ts hs ≡ picked us hs
 picked_same n ts us [] same e = refl
 picked_same n ts us (h ∷ hs) same e =
-    let p = both (ltb h n) (all_below n hs) e in
+    let p = and_parts (ltb h n) (all_below n hs) e in
     ap (λ i. i ∷ picked ts hs) (same h (ltb-true h n p.0)) ∙ ap (λ is. get_or us h nothing ∷ is) (picked_same n ts us hs same p.1)

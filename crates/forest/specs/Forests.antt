@@ -1,5 +1,6 @@
 -- Items and forests: what a capture, a table or a query's result is made of.
 use Rattle.std.specs.Prelude.{ℕ, ◌+◌, max, Bool, true, ◌&&◌, List, [], ◌∷◌, ℤ, pos, negsuc, nat_le, nat_lt}
+use Rattle.std.specs.List.{list_all}
 
 pub data Scalar : Type 0 where
   integer : ℤ → Scalar
@@ -46,8 +47,7 @@ abbrev pub tag_lawful : ℕ → Bool
 tag_lawful t = nat_le 1 t && nat_le t 65535
 
 abbrev pub bytes_lawful : List ℕ → Bool
-bytes_lawful [] = true
-bytes_lawful (b ∷ bs) = nat_lt b 256 && bytes_lawful bs
+bytes_lawful bs = list_all (λ b. nat_lt b 256) bs
 
 abbrev pub scalar_lawful : Scalar → Bool
 scalar_lawful (integer z) = integer_lawful z

@@ -1,9 +1,10 @@
 -- What a store means, what reading it gives, and what making does to it.
-use Rattle.std.specs.Prelude.{◌≡◌, ℕ, ◌+◌, ◌-◌, ◌<◌, ◌≤◌, Bool, true, false, ◌&&◌, List, [], ◌∷◌, ◌++◌, map, length, ℤ, pos, Some, None, Ok, Err, Option, Result, nat_le, nat_lt, slice_index, slice_index_or}
+use Rattle.std.specs.Prelude.{◌≡◌, ℕ, ◌+◌, ◌-◌, ◌<◌, ◌≤◌, Bool, true, false, ◌&&◌, List, [], ◌∷◌, ◌++◌, map, length, ℤ, pos, Some, None, Ok, Err, Option, Result, nat_le, nat_lt, slice_get, slice_index, slice_index_or}
+use Rattle.std.specs.List.{list_all}
 use Rattle.forest.specs.declared.fault.Fault.{Fault}
 use Rattle.forest.specs.declared.fault.Reason.TheVariants.{SpaceShort, OutOfRange}
 use Rattle.forest.specs.declared.kind.Kind.{Kind}
-use Rattle.forest.specs.declared.kind.Kind.TheVariants.{Absent, Integer, String, Boolean, Element}
+use Rattle.forest.specs.declared.kind.Kind.TheVariants.{Integer, String, Boolean, Element}
 use Rattle.forest.specs.declared.space.Space.{Space}
 use Rattle.forest.specs.Faults.{faulted}
 use Rattle.forest.specs.Forests.{Scalar, integer, string, boolean, Item, scalar, element, items, forest, lawful, integer_lawful, tag_lawful}
@@ -21,7 +22,6 @@ pub record Sound (m : Meaning) : Type 0 where
 -- Reading, one item at a time.
 
 abbrev pub kind_number : Kind → ℕ
-kind_number Absent = 0
 kind_number Integer = 3
 kind_number String = 4
 kind_number Boolean = 5
@@ -66,10 +66,10 @@ abbrev pub item_text : Item → List ℕ
 item_text (scalar s) = scalar_text s
 item_text (element t c) = []
 
--- Reading by handle: what is not there reads 0.
+-- Reading by handle: what is not there has no kind, and reads 0.
 
-abbrev pub kind_at : List Item → ℕ → Kind
-kind_at ts h = slice_index_or (map item_kind ts) h Absent
+abbrev pub kind_at : List Item → ℕ → Option Kind
+kind_at ts h = slice_get (map item_kind ts) h
 
 abbrev pub tag_at : List Item → ℕ → ℕ
 tag_at ts h = slice_index (map item_tag ts) h
@@ -114,8 +114,7 @@ picked ts [] = []
 picked ts (h ∷ hs) = slice_index_or ts h nothing ∷ picked ts hs
 
 abbrev pub all_below : ℕ → List ℕ → Bool
-all_below n [] = true
-all_below n (h ∷ hs) = nat_lt h n && all_below n hs
+all_below n hs = list_all (λ h. nat_lt h n) hs
 
 abbrev pub asked_element : List Item → ℕ → List ℕ → Option Item
 asked_element ts t hs = when (tag_lawful t && all_below (length ts) hs) (element t (forest (picked ts hs)))

@@ -1,48 +1,37 @@
 ghost use Rattle.std.specs.Prelude.{◌≡◌};
-ghost use Rattle.forest.specs.Faults.{number_of};
+ghost use Rattle.forest.specs.Faults.{number_of, faulted};
 
 /// Why a call is refused.
 #[derive(Clone, Copy, PartialEq, Eq, Debug)]
 pub enum Reason {
     /// A table has no room for what is added.
-    TableFull,
+    TableFull = 11,
     /// A field out of its range, or one that names what is not there.
-    FieldOutOfRange,
+    FieldOutOfRange = 12,
     /// A type part that another row owns, or that is named twice.
-    PartTaken,
+    PartTaken = 13,
     /// A handle that the store does not have.
-    NoSuchHandle,
+    NoSuchHandle = 33,
     /// More than 64 elements stand inside one another.
-    NestedTooDeep,
+    NestedTooDeep = 34,
     /// The text is longer than the buffer.
-    BufferShort,
+    BufferShort = 36,
     /// The store's space does not hold one more such tree.
-    SpaceShort,
+    SpaceShort = 51,
     /// A kind, tag, value or child handle out of its range.
-    OutOfRange,
+    OutOfRange = 52,
     /// A table past a limit, or with an unlawful row.
-    UnlawfulTable,
+    UnlawfulTable = 53,
     /// A capture with an unlawful event.
-    UnlawfulCapture,
+    UnlawfulCapture = 54,
 }
 
-impl Reason {
-    /// The number that stands for the reason in every answer.
-    pub fn number(self) -> u8
-        ensures { result ≡ number_of self }
-    {
-        match self {
-            Reason::TableFull => 11,
-            Reason::FieldOutOfRange => 12,
-            Reason::PartTaken => 13,
-            Reason::NoSuchHandle => 33,
-            Reason::NestedTooDeep => 34,
-            Reason::BufferShort => 36,
-            Reason::SpaceShort => 51,
-            Reason::OutOfRange => 52,
-            Reason::UnlawfulTable => 53,
-            Reason::UnlawfulCapture => 54,
-        }
+/// The number that stands for the reason in every answer.
+impl From<Reason> for u8 {
+    ghost from_gives = { λ reason number. number ≡ number_of reason };
+
+    fn from(reason: Reason) -> u8 {
+        reason as u8
     }
 }
 
@@ -50,6 +39,16 @@ impl Reason {
 #[derive(Clone, Copy, PartialEq, Eq, Debug)]
 pub struct Fault {
     pub reason: Reason,
+    /// A number and no enum, since stores of other kinds may name layers of their own.
     pub layer: u8,
+    /// Answers print it as it is, so where there is no row it is 0 and no `None`.
     pub row: u32,
+}
+
+impl Fault {
+    pub fn new(reason: Reason, layer: u8, row: u32) -> Fault
+        ensures { result ≡ faulted reason layer row }
+    {
+        Fault { reason, layer, row }
+    }
 }

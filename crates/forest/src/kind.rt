@@ -1,27 +1,20 @@
 ghost use Rattle.std.specs.Prelude.{◌≡◌};
 ghost use Rattle.forest.specs.Stores.{kind_number};
 
-/// What stands at a handle.
+/// What a tree is.
 #[derive(Clone, Copy, PartialEq, Eq, Debug)]
 pub enum Kind {
-    Absent,
-    Integer,
-    String,
-    Boolean,
-    Element,
+    Integer = 3,
+    String = 4,
+    Boolean = 5,
+    Element = 6,
 }
 
-impl Kind {
-    /// The kind's number: 3 to 6, and 0 where nothing is there.
-    pub fn number(self) -> u8
-        ensures { result ≡ kind_number self }
-    {
-        match self {
-            Kind::Absent => 0,
-            Kind::Integer => 3,
-            Kind::String => 4,
-            Kind::Boolean => 5,
-            Kind::Element => 6,
-        }
+/// The kind's number.
+impl From<Kind> for u8 {
+    ghost from_gives = { λ kind number. number ≡ kind_number kind };
+
+    fn from(kind: Kind) -> u8 {
+        kind as u8
     }
 }

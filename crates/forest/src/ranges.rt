@@ -10,7 +10,7 @@ use crate::fault::{Fault, Reason};
 pub fn integer_in_range(value: i64) -> bool
     ensures { result ≡ integer_lawful value }
 {
-    value >= -1_000_000_000_000 && value <= 1_000_000_000_000
+    (-1_000_000_000_000..=1_000_000_000_000).contains(&value)
 }
 
 /// Whether a number stands for a Boolean.
@@ -24,19 +24,14 @@ pub fn boolean_in_range(value: u32) -> bool
 pub fn tag_in_range(tag: u32) -> bool
     ensures { result ≡ tag_lawful tag }
 {
-    tag >= 1 && tag <= 65_535
+    (1..=65_535).contains(&tag)
 }
 
 /// Whether each handle is below `count`.
 pub fn handles_in_range(handles: &[u32], count: u32) -> bool
     ensures { result ≡ all_below count handles.now }
 {
-    for handle in handles {
-        if *handle >= count {
-            return false;
-        }
-    }
-    true
+    handles.iter().all(|handle| *handle < count)
 }
 
 /// How a store that has no space left refuses to make a tree: a field out of range goes first.
@@ -48,9 +43,5 @@ pub fn refuse_without_space(layer: u8, in_range: bool) -> Fault
     } else {
         Reason::OutOfRange
     };
-    Fault {
-        reason,
-        layer,
-        row: 0,
-    }
+    Fault::new(reason, layer, 0)
 }

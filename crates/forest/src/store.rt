@@ -6,18 +6,15 @@ use crate::kind::Kind;
 use crate::space::Space;
 
 /// A store of trees. What it means is a list of trees and three numbers of space; a handle is a place in that list.
-/// Reading changes nothing, and what is not there reads 0. Making adds one tree at the end, or is refused and changes nothing.
+/// Reading changes nothing. What is not there has no kind, and its numbers read 0, as the formats ask; `kind` and the counts tell whether it
+/// is there. Making adds one tree at the end, or is refused and changes nothing.
 pub trait Store {
     /// The layer that this kind of store names in its faults.
     const LAYER: u8;
 
-    ghost layer: { ℕ };
+    ghost LAYER: { ℕ };
 
     ghost means: { Self → Meaning };
-
-    /// `LAYER`, where a contract has to speak of it.
-    fn layer_number() -> u8
-        ensures { result ≡ layer };
 
     /// The number of trees.
     fn count(&self) -> u32
@@ -27,7 +24,7 @@ pub trait Store {
     fn space(&self) -> Space
         ensures { result ≡ (means self.now).space };
 
-    fn kind(&self, handle: u32) -> Kind
+    fn kind(&self, handle: u32) -> Option<Kind>
         ensures { result ≡ kind_at (means self.now).trees handle };
 
     fn tag(&self, handle: u32) -> u16
@@ -51,15 +48,15 @@ pub trait Store {
         ensures { result ≡ slice_index (text_at (means self.now).trees handle) index };
 
     fn make_integer(&mut self, value: i64) -> Result<u32, Fault>
-        ensures { (result, means self.new) ≡ make layer (asked_integer value) (means self.old) };
+        ensures { (result, means self.new) ≡ make LAYER (asked_integer value) (means self.old) };
 
-    /// 0 is false and 1 is true.
+    /// 0 is false and 1 is true. Any other number is refused, so this is no `bool`.
     fn make_boolean(&mut self, value: u32) -> Result<u32, Fault>
-        ensures { (result, means self.new) ≡ make layer (asked_boolean value) (means self.old) };
+        ensures { (result, means self.new) ≡ make LAYER (asked_boolean value) (means self.old) };
 
     fn make_string(&mut self, text: &[u8]) -> Result<u32, Fault>
-        ensures { (result, means self.new) ≡ make layer (asked_string text.now) (means self.old) };
+        ensures { (result, means self.new) ≡ make LAYER (asked_string text.now) (means self.old) };
 
     fn make_element(&mut self, tag: u32, children: &[u32]) -> Result<u32, Fault>
-        ensures { (result, means self.new) ≡ make layer (asked_element (means self.old).trees tag children.now) (means self.old) };
+        ensures { (result, means self.new) ≡ make LAYER (asked_element (means self.old).trees tag children.now) (means self.old) };
 }

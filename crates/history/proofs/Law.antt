@@ -1,25 +1,27 @@
 -- The law of histories.
-use Rattle.std.proofs.Common.{◌≡◌, ℕ, ◌+◌, ◌≤◌, Bool, true, false, cond, not, ◌&&◌, ltb, leb, List, [], ◌∷◌, ◌++◌, length, ℤ, Some, None, Ok, Err, Option, Result, sym, refl, ap, ◌∙◌, subst, append_assoc, arith, ltb-true}
+use Rattle.std.proofs.Common.{◌≡◌, ℕ, ◌+◌, ◌≤◌, Bool, true, false, cond, not, ◌&&◌, ltb, leb, List, [], ◌∷◌, ◌++◌, length, Some, None, Ok, Err, Option, Result, sym, refl, ap, ◌∙◌, subst, append_assoc, arith, ltb-true}
 use Rattle.std.proofs.lemmas.List.{append-nil, length_push}
 use Rattle.std.specs.Option.{option_to_list}
 use Rattle.forest.specs.declared.fault.Fault.{Fault}
 use Rattle.forest.specs.declared.fault.Reason.TheVariants.{TableFull, FieldOutOfRange, PartTaken}
-use Rattle.forest.proofs.Picked.{both}
+use Rattle.std.proofs.lemmas.Bool.{and_parts}
 use Rattle.rows.specs.declared.arm.Arm.{Arm}
-use Rattle.rows.specs.declared.arm.Pattern.{Pattern}
+use Rattle.rows.specs.declared.arm.RawArm.{RawArm}
 use Rattle.rows.specs.declared.expression.Expression.{Expression}
+use Rattle.rows.specs.declared.expression.RawExpression.{RawExpression}
 use Rattle.rows.specs.declared.function.Function.{Function}
 use Rattle.rows.specs.declared.function.Query.{Query}
 use Rattle.rows.specs.declared.type_row.TypeRow.{TypeRow}
-use Rattle.rows.specs.Arms.{pattern_of, arm_fits}
+use Rattle.rows.specs.declared.type_row.RawType.{RawType}
+use Rattle.rows.specs.Arms.{arm_of, arm_fits}
 use Rattle.rows.specs.Expressions.{expression_of, expression_fits}
 use Rattle.rows.specs.Functions.{function_fits, query_fits}
 use Rattle.rows.specs.TypeRows.{type_of, type_fits, twice}
-use Rattle.session.specs.Rules.{free}
+use Rattle.rows.specs.TypeTables.{free}
 use Rattle.session.specs.Tables.{room_of, with_expression, with_arm, with_function, with_text, with_body_set, with_query}
 use Rattle.session.specs.Calls.{Tables, empty_tables, Change, add_text, add_type, add_function, add_arm, add_expression, set_body, set_query, clear, applied, accepted, refused, type_put, arm_put, expression_put}
 use Rattle.history.specs.Calls.{ran, replies}
-use Rattle.history.specs.History.{clears, history, since, Given, nothing, arm_with, gives, joined, gathered, last_body, with_bodies, assembled}
+use Rattle.history.specs.History.{clears, history, since, Given, nothing, gives, joined, gathered, last_body, with_bodies, assembled}
 use Rattle.history.proofs.Bodies.{last_other, query-push, length-bodies, bodies-push, bodies-set}
 
 -- no body was set on a function that is not there
@@ -44,37 +46,25 @@ unset_same fs ps un i le = ap (last_body i None) (append-nil ps) ∙ un i (omega
 
 next-text : (g : Given) (bs : List ℕ) → Unset g → Leads g (add_text bs) (applied (assembled g) (add_text bs))
 next-text g bs un = by-test g (add_text bs) (leb (length g.text + length bs) 4096) (accepted (length g.text) g.types (with_text (assembled g).program bs)) (refused TableFull (length g.text) (assembled g)) (λ _. (
-  let a = append-nil g.types in
-      let b = append-nil g.expressions in
-      let c = append-nil g.arms in
-      let d = append-nil g.functions in
-      let e = append-nil g.bodies in
-      let f = append-nil g.queries in
-      cc,
+  simp append-nil,
   unset_same g.functions g.bodies un,
 )) refl
 
-next-type_put : (g : Given) (k a b : ℕ) (o : Option TypeRow) → type_of k a b ≡ o → Unset g → Leads g (add_type k a b) (type_put (assembled g) o)
-next-type_put g k a b None is un = refl
-next-type_put g k a b (Some r) is un =
+next-type_put : (g : Given) (raw : RawType) (o : Option TypeRow) → type_of raw.kind raw.a raw.b ≡ o → Unset g → Leads g (add_type raw) (type_put (assembled g) o)
+next-type_put g raw None is un = refl
+next-type_put g raw (Some r) is un =
     let n = length g.types in
     let t = assembled g in
     let put = accepted n (g.types ++ (r ∷ [])) t.program in
     let taken = refused PartTaken n t in
-    by-test g (add_type k a b) (type_fits n r) (cond (not (twice r) && free g.types r) put taken) (refused FieldOutOfRange n t) (λ _. by-test g (add_type k a b) (not (twice r) && free g.types r) put taken (λ _. (
-      let x = append-nil g.text in
-          let y = append-nil g.expressions in
-          let z = append-nil g.arms in
-          let d = append-nil g.functions in
-          let e = append-nil g.bodies in
-          let f = append-nil g.queries in
-          let row = ap (λ q. g.types ++ option_to_list q) is in
-          cc,
+    by-test g (add_type raw) (type_fits n r) (cond (not (twice r) && free g.types r) put taken) (refused FieldOutOfRange n t) (λ _. by-test g (add_type raw) (not (twice r) && free g.types r) put taken (λ _. (
+      let row = ap (λ q. g.types ++ option_to_list q) is in
+          simp (append-nil, row),
       unset_same g.functions g.bodies un,
     )) refl) refl
 
-next-type : (g : Given) (k a b : ℕ) → Unset g → Leads g (add_type k a b) (applied (assembled g) (add_type k a b))
-next-type g k a b un = by-test g (add_type k a b) (ltb (length g.types) 512) (type_put (assembled g) (type_of k a b)) (refused TableFull (length g.types) (assembled g)) (λ _. next-type_put g k a b (type_of k a b) refl un) refl
+next-type : (g : Given) (raw : RawType) → Unset g → Leads g (add_type raw) (applied (assembled g) (add_type raw))
+next-type g raw un = by-test g (add_type raw) (ltb (length g.types) 512) (type_put (assembled g) (type_of raw.kind raw.a raw.b)) (refused TableFull (length g.types) (assembled g)) (λ _. next-type_put g raw (type_of raw.kind raw.a raw.b) refl un) refl
 
 next-function : (g : Given) (p r : ℕ) → Unset g → Leads g (add_function p r) (applied (assembled g) (add_function p r))
 next-function g p r un =
@@ -84,121 +74,72 @@ next-function g p r un =
     let put = accepted n g.types (with_function t.program f) in
     let bad = refused FieldOutOfRange n t in
     by-test g (add_function p r) (ltb n 32) (cond (function_fits f) put bad) (refused TableFull n t) (λ _. by-test g (add_function p r) (function_fits f) put bad (λ _. (
-      let w = append-nil g.types in
-          let x = append-nil g.text in
-          let y = append-nil g.expressions in
-          let z = append-nil g.arms in
-          let e = append-nil g.bodies in
-          let f = append-nil g.queries in
-          let at : length g.functions ≤ 0 + length g.functions = omega arith in
+      let at : length g.functions ≤ 0 + length g.functions = omega arith in
           let more = bodies-push 0 g.functions p r g.bodies (un (0 + length g.functions) at) in
-          cc,
+          simp (append-nil, more),
       λ i le.
           let long = length_push g.functions (record { parameter = p; result = r; body = None }) in
           ap (last_body i None) (append-nil g.bodies) ∙ un i (omega arith),
     )) refl) refl
 
-next-arm_put : (g : Given) (k tag body : ℕ) (o : Option Pattern) → pattern_of k tag ≡ o → Unset g → Leads g (add_arm k tag body) (arm_put (assembled g) o body)
-next-arm_put g k tag body None is un = refl
-next-arm_put g k tag body (Some p) is un =
+next-arm_put : (g : Given) (raw : RawArm) (o : Option Arm) → arm_of raw.kind raw.tag raw.body ≡ o → Unset g → Leads g (add_arm raw) (arm_put (assembled g) o)
+next-arm_put g raw None is un = refl
+next-arm_put g raw (Some arm) is un =
     let t = assembled g in
     let n = length g.arms in
-    let arm : Arm = record { pattern = p; body = body } in
-    by-test g (add_arm k tag body) (arm_fits (length g.expressions) arm) (accepted n g.types (with_arm t.program arm)) (refused FieldOutOfRange n t) (λ _. (
-      let w = append-nil g.types in
-          let x = append-nil g.text in
-          let y = append-nil g.expressions in
-          let d = append-nil g.functions in
-          let e = append-nil g.bodies in
-          let f = append-nil g.queries in
-          let row = ap (λ q. g.arms ++ arm_with q body) is in
-          cc,
+    by-test g (add_arm raw) (arm_fits (length g.expressions) arm) (accepted n g.types (with_arm t.program arm)) (refused FieldOutOfRange n t) (λ _. (
+      let row = ap (λ q. g.arms ++ option_to_list q) is in
+          simp (append-nil, row),
       unset_same g.functions g.bodies un,
     )) refl
 
-next-arm : (g : Given) (k tag body : ℕ) → Unset g → Leads g (add_arm k tag body) (applied (assembled g) (add_arm k tag body))
-next-arm g k tag body un = by-test g (add_arm k tag body) (ltb (length g.arms) 128) (arm_put (assembled g) (pattern_of k tag) body) (refused TableFull (length g.arms) (assembled g)) (λ _. next-arm_put g k tag body (pattern_of k tag) refl un) refl
+next-arm : (g : Given) (raw : RawArm) → Unset g → Leads g (add_arm raw) (applied (assembled g) (add_arm raw))
+next-arm g raw un = by-test g (add_arm raw) (ltb (length g.arms) 128) (arm_put (assembled g) (arm_of raw.kind raw.tag raw.body)) (refused TableFull (length g.arms) (assembled g)) (λ _. next-arm_put g raw (arm_of raw.kind raw.tag raw.body) refl un) refl
 
-next-expression_put : (g : Given) (k : ℕ) (a : ℤ) (b c d : ℕ) (o : Option Expression) → expression_of k a b c d ≡ o → Unset g → Leads g (add_expression k a b c d) (expression_put (assembled g) o)
-next-expression_put g k a b c d None is un = refl
-next-expression_put g k a b c d (Some e) is un =
+next-expression_put : (g : Given) (raw : RawExpression) (o : Option Expression) → expression_of raw.kind raw.a raw.b raw.c raw.d ≡ o → Unset g → Leads g (add_expression raw) (expression_put (assembled g) o)
+next-expression_put g raw None is un = refl
+next-expression_put g raw (Some e) is un =
     let t = assembled g in
     let n = length g.expressions in
-    by-test g (add_expression k a b c d) (expression_fits (room_of t.program) e) (accepted n g.types (with_expression t.program e)) (refused FieldOutOfRange n t) (λ _. (
-      let w = append-nil g.types in
-          let x = append-nil g.text in
-          let y = append-nil g.arms in
-          let h = append-nil g.functions in
-          let i = append-nil g.bodies in
-          let f = append-nil g.queries in
-          let row = ap (λ q. g.expressions ++ option_to_list q) is in
-          cc,
+    by-test g (add_expression raw) (expression_fits (room_of t.program) e) (accepted n g.types (with_expression t.program e)) (refused FieldOutOfRange n t) (λ _. (
+      let row = ap (λ q. g.expressions ++ option_to_list q) is in
+          simp (append-nil, row),
       unset_same g.functions g.bodies un,
     )) refl
 
-next-expression : (g : Given) (k : ℕ) (a : ℤ) (b c d : ℕ) → Unset g → Leads g (add_expression k a b c d) (applied (assembled g) (add_expression k a b c d))
-next-expression g k a b c d un = by-test g (add_expression k a b c d) (ltb (length g.expressions) 512) (expression_put (assembled g) (expression_of k a b c d)) (refused TableFull (length g.expressions) (assembled g)) (λ _. next-expression_put g k a b c d (expression_of k a b c d) refl un) refl
+next-expression : (g : Given) (raw : RawExpression) → Unset g → Leads g (add_expression raw) (applied (assembled g) (add_expression raw))
+next-expression g raw un = by-test g (add_expression raw) (ltb (length g.expressions) 512) (expression_put (assembled g) (expression_of raw.kind raw.a raw.b raw.c raw.d)) (refused TableFull (length g.expressions) (assembled g)) (λ _. next-expression_put g raw (expression_of raw.kind raw.a raw.b raw.c raw.d) refl un) refl
 
 next-body : (g : Given) (f row : ℕ) → Unset g → Leads g (set_body f row) (applied (assembled g) (set_body f row))
 next-body g f row un =
     let t = assembled g in
     by-test g (set_body f row) (ltb f (length t.program.functions) && ltb row (length g.expressions)) (accepted 0 g.types (with_body_set t.program f row)) (refused FieldOutOfRange 0 t) (λ there. (
-      let v = append-nil g.types in
-          let w = append-nil g.expressions in
-          let x = append-nil g.text in
-          let y = append-nil g.arms in
-          let h = append-nil g.functions in
-          let q = append-nil g.queries in
-          let more = bodies-set f g.functions g.bodies row in
-          cc,
+      let more = bodies-set f g.functions g.bodies row in
+          simp (append-nil, more),
       λ i le.
           let long = ap length (append-nil g.functions) in
-          let lt = ltb-true f (length (with_bodies 0 g.functions g.bodies)) (both (ltb f (length (with_bodies 0 g.functions g.bodies))) (ltb row (length g.expressions)) there).0 in
+          let lt = ltb-true f (length (with_bodies 0 g.functions g.bodies)) (and_parts (ltb f (length (with_bodies 0 g.functions g.bodies))) (ltb row (length g.expressions)) there).0 in
           let same = length-bodies 0 g.functions g.bodies in
           let ne : f ≡ i → ⊥ = λ e. omega arith in
           last_other i g.bodies f row ne ∙ un i (omega arith),
     )) refl
 
-next-query : (g : Given) (i row : ℕ) → Unset g → Leads g (set_query i row) (applied (assembled g) (set_query i row))
-next-query g i row un =
+next-query : (g : Given) (q : Query) → Unset g → Leads g (set_query q) (applied (assembled g) (set_query q))
+next-query g q un =
     let t = assembled g in
-    let q : Query = record { input = i; row = row } in
-    by-test g (set_query i row) (query_fits (length g.expressions) q) (accepted 0 g.types (with_query t.program q)) (refused FieldOutOfRange 0 t) (λ _. (
-      let v = append-nil g.types in
-          let w = append-nil g.expressions in
-          let x = append-nil g.text in
-          let y = append-nil g.arms in
-          let h = append-nil g.functions in
-          let b = append-nil g.bodies in
-          let more = query-push None g.queries (record { input = i; row = row }) in
-          cc,
+    by-test g (set_query q) (query_fits (length g.expressions) q) (accepted 0 g.types (with_query t.program q)) (refused FieldOutOfRange 0 t) (λ _. (
+      let more = query-push None g.queries q in
+          simp (append-nil, more),
       unset_same g.functions g.bodies un,
     )) refl
 
 -- one call more
 
 join-assoc : (a b c : Given) → joined (joined a b) c ≡ joined a (joined b c)
-join-assoc a b c =
-    let t = append_assoc a.types b.types c.types in
-    let u = append_assoc a.expressions b.expressions c.expressions in
-    let v = append_assoc a.arms b.arms c.arms in
-    let w = append_assoc a.functions b.functions c.functions in
-    let x = append_assoc a.text b.text c.text in
-    let y = append_assoc a.bodies b.bodies c.bodies in
-    let z = append_assoc a.queries b.queries c.queries in
-    cc
+join-assoc a b c = simp append_assoc
 
 join-none : (a : Given) → joined a nothing ≡ a
-join-none a =
-    let t = append-nil a.types in
-    let u = append-nil a.expressions in
-    let v = append-nil a.arms in
-    let w = append-nil a.functions in
-    let x = append-nil a.text in
-    let y = append-nil a.bodies in
-    let z = append-nil a.queries in
-    let same : joined a nothing ≡ record { types = a.types; expressions = a.expressions; arms = a.arms; functions = a.functions; text = a.text; bodies = a.bodies; queries = a.queries } = cc in
-    same
+join-none a = simp append-nil
 
 gathered-push : (s : List Change) (c : Change) → gathered (s ++ (c ∷ [])) ≡ joined (gathered s) (gives c)
 gathered-push [] c = join-none (gives c)
@@ -216,12 +157,12 @@ kept s c (Ok n) t stays un next =
 
 step-at : (s : List Change) (c : Change) → Unset (gathered s) → Good (since s ((c, (applied (assembled (gathered s)) c).0) ∷ [])) (applied (assembled (gathered s)) c).1
 step-at s (add_text bs) un = kept s (add_text bs) _ _ refl un (next-text (gathered s) bs un)
-step-at s (add_type k a b) un = kept s (add_type k a b) _ _ refl un (next-type (gathered s) k a b un)
+step-at s (add_type raw) un = kept s (add_type raw) _ _ refl un (next-type (gathered s) raw un)
 step-at s (add_function p r) un = kept s (add_function p r) _ _ refl un (next-function (gathered s) p r un)
-step-at s (add_arm k tag body) un = kept s (add_arm k tag body) _ _ refl un (next-arm (gathered s) k tag body un)
-step-at s (add_expression k a b c d) un = kept s (add_expression k a b c d) _ _ refl un (next-expression (gathered s) k a b c d un)
+step-at s (add_arm raw) un = kept s (add_arm raw) _ _ refl un (next-arm (gathered s) raw un)
+step-at s (add_expression raw) un = kept s (add_expression raw) _ _ refl un (next-expression (gathered s) raw un)
 step-at s (set_body f row) un = kept s (set_body f row) _ _ refl un (next-body (gathered s) f row un)
-step-at s (set_query i row) un = kept s (set_query i row) _ _ refl un (next-query (gathered s) i row un)
+step-at s (set_query q) un = kept s (set_query q) _ _ refl un (next-query (gathered s) q un)
 step-at s clear un = (refl, λ i le. refl)
 
 step : (s : List Change) (t : Tables) (c : Change) → Good s t → Good (since s ((c, (applied t c).0) ∷ [])) (applied t c).1

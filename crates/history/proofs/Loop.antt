@@ -1,6 +1,7 @@
 -- Replaying calls one by one.
-use Rattle.std.proofs.Common.{◌≡◌, ℕ, zero, suc, ◌+◌, ◌<◌, ◌≤◌, min, ◌⊎◌, List, [], ◌∷◌, ◌++◌, map, length, get_or, take, drop, set, Result, sym, refl, ap, ◌∙◌, inl, inr, arith, take-append-drop, drop-set-lt}
+use Rattle.std.proofs.Common.{◌≡◌, ℕ, suc, ◌+◌, ◌<◌, ◌≤◌, min, ◌⊎◌, List, [], ◌∷◌, ◌++◌, map, length, get_or, take, drop, set, Result, sym, refl, ap, ◌∙◌, inl, inr, arith, take-append-drop, drop-set-lt}
 use lib.ListN.{length-map}
+use Rattle.std.proofs.lemmas.Bool.{cases_lt}
 use Rattle.std.proofs.lemmas.List.{take_more, take_more_set, take_all, drop_all, get_or-map}
 use Rattle.forest.specs.declared.fault.Fault.{Fault}
 use Rattle.session.specs.Calls.{Tables, empty_tables, Change, clear, applied}
@@ -48,13 +49,8 @@ replayed_more calls i start t u answers r (at, got, rest) lt room is =
 
 -- all calls are made for which there is a place
 
-either : (m n : ℕ) → (m ≤ n) ⊎ (n ≤ m)
-either zero n = inl (omega arith)
-either (suc m) zero = inr (omega arith)
-either (suc m) (suc n) = elim (either m n) [ inl le ↦ inl (omega arith) | inr le ↦ inr (omega arith) ]
-
-made_all : (calls : List Call) (start : List (Result ℕ Fault)) (i : ℕ) → i ≡ min (length calls) (length start) → (length calls ≤ length start) ⊎ (length start ≤ length calls) → take i (map change_of calls) ≡ made calls start
-made_all calls start i is (inl le) =
+made_all : (calls : List Call) (start : List (Result ℕ Fault)) (i : ℕ) → i ≡ min (length calls) (length start) → (length calls < length start) ⊎ (length start ≤ length calls) → take i (map change_of calls) ≡ made calls start
+made_all calls start i is (inl lt) =
     let cs = map change_of calls in
     let long = length-map calls change_of in
     let a : length cs ≤ i = omega arith in
@@ -62,8 +58,8 @@ made_all calls start i is (inl le) =
     take_all i cs a ∙ sym (take_all (length start) cs b)
 made_all calls start i is (inr le) = let e : i ≡ length start = omega arith in ap (λ k. take k (map change_of calls)) e
 
-rest_all : (calls : List Call) (start : List (Result ℕ Fault)) (i : ℕ) → i ≡ min (length calls) (length start) → (length calls ≤ length start) ⊎ (length start ≤ length calls) → drop i start ≡ drop (length calls) start
-rest_all calls start i is (inl le) = let e : i ≡ length calls = omega arith in ap (λ k. drop k start) e
+rest_all : (calls : List Call) (start : List (Result ℕ Fault)) (i : ℕ) → i ≡ min (length calls) (length start) → (length calls < length start) ⊎ (length start ≤ length calls) → drop i start ≡ drop (length calls) start
+rest_all calls start i is (inl lt) = let e : i ≡ length calls = omega arith in ap (λ k. drop k start) e
 rest_all calls start i is (inr le) = let a : length start ≤ i = omega arith in drop_all i start a ∙ sym (drop_all (length calls) start le)
 
 pub record Done (calls : List Call) (start : List (Result ℕ Fault)) (t : Tables) (answers : List (Result ℕ Fault)) : Type 0 where
@@ -73,7 +69,7 @@ pub record Done (calls : List Call) (start : List (Result ℕ Fault)) (t : Table
 
 pub replayed_all : (calls : List Call) (i : ℕ) (start : List (Result ℕ Fault)) (t : Tables) (answers : List (Result ℕ Fault)) → Replayed calls i start t answers → i ≡ min (length calls) (length start) → Done calls start t answers
 replayed_all calls i start t answers (at, got, rest) is =
-    let which = either (length calls) (length start) in
+    let which = cases_lt (length calls) (length start) in
     let cs = made calls start in
     let all = made_all calls start i is which in
     let same : i ≤ i = omega arith in

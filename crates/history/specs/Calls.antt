@@ -8,12 +8,12 @@ use Rattle.history.specs.declared.call.Call.TheVariants.{Clear, AddText, AddType
 abbrev pub change_of : Call → Change
 change_of Clear = clear
 change_of (AddText text) = add_text text.now
-change_of (AddType k a b) = add_type k a b
+change_of (AddType raw) = add_type raw
 change_of (AddFunction p r) = add_function p r
-change_of (AddArm k tag body) = add_arm k tag body
-change_of (AddExpression k a b c d) = add_expression k a b c d
+change_of (AddArm raw) = add_arm raw
+change_of (AddExpression raw) = add_expression raw
 change_of (SetBody f row) = set_body f row
-change_of (SetQuery i row) = set_query i row
+change_of (SetQuery q) = set_query q
 
 -- the calls that are made: one for each place for an answer
 abbrev pub made : List Call → List (Result ℕ Fault) → List Change

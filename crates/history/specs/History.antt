@@ -3,24 +3,23 @@ use Rattle.std.specs.Prelude.{ℕ, ◌+◌, Bool, true, false, cond, List, [], �
 use Rattle.std.specs.Option.{option_to_list}
 use Rattle.forest.specs.declared.fault.Fault.{Fault}
 use Rattle.rows.specs.declared.arm.Arm.{Arm}
-use Rattle.rows.specs.declared.arm.Pattern.{Pattern}
 use Rattle.rows.specs.declared.expression.Expression.{Expression}
 use Rattle.rows.specs.declared.function.Function.{Function}
 use Rattle.rows.specs.declared.function.Query.{Query}
 use Rattle.rows.specs.declared.type_row.TypeRow.{TypeRow}
-use Rattle.rows.specs.Arms.{pattern_of}
+use Rattle.rows.specs.Arms.{arm_of}
 use Rattle.rows.specs.Expressions.{expression_of}
 use Rattle.rows.specs.TypeRows.{type_of}
 use Rattle.session.specs.Calls.{Tables, opened, Change, add_text, add_type, add_function, add_arm, add_expression, set_body, set_query, clear}
 
 abbrev pub clears : Change → Bool
 clears (add_text bs) = false
-clears (add_type k a b) = false
+clears (add_type raw) = false
 clears (add_function p r) = false
-clears (add_arm k tag body) = false
-clears (add_expression k a b c d) = false
+clears (add_arm raw) = false
+clears (add_expression raw) = false
 clears (set_body f row) = false
-clears (set_query i row) = false
+clears (set_query q) = false
 clears clear = true
 
 -- each call with its answer
@@ -48,18 +47,14 @@ pub record Given : Type 0 where
 abbrev pub nothing : Given
 nothing = record { types = []; expressions = []; arms = []; functions = []; text = []; bodies = []; queries = [] }
 
-abbrev pub arm_with : Option Pattern → ℕ → List Arm
-arm_with None body = []
-arm_with (Some p) body = record { pattern = p; body = body } ∷ []
-
 abbrev pub gives : Change → Given
 gives (add_text bs) = record { types = []; expressions = []; arms = []; functions = []; text = bs; bodies = []; queries = [] }
-gives (add_type k a b) = record { types = option_to_list (type_of k a b); expressions = []; arms = []; functions = []; text = []; bodies = []; queries = [] }
+gives (add_type raw) = record { types = option_to_list (type_of raw.kind raw.a raw.b); expressions = []; arms = []; functions = []; text = []; bodies = []; queries = [] }
 gives (add_function p r) = record { types = []; expressions = []; arms = []; functions = record { parameter = p; result = r; body = None } ∷ []; text = []; bodies = []; queries = [] }
-gives (add_arm k tag body) = record { types = []; expressions = []; arms = arm_with (pattern_of k tag) body; functions = []; text = []; bodies = []; queries = [] }
-gives (add_expression k a b c d) = record { types = []; expressions = option_to_list (expression_of k a b c d); arms = []; functions = []; text = []; bodies = []; queries = [] }
+gives (add_arm raw) = record { types = []; expressions = []; arms = option_to_list (arm_of raw.kind raw.tag raw.body); functions = []; text = []; bodies = []; queries = [] }
+gives (add_expression raw) = record { types = []; expressions = option_to_list (expression_of raw.kind raw.a raw.b raw.c raw.d); arms = []; functions = []; text = []; bodies = []; queries = [] }
 gives (set_body f row) = record { types = []; expressions = []; arms = []; functions = []; text = []; bodies = (f, row) ∷ []; queries = [] }
-gives (set_query i row) = record { types = []; expressions = []; arms = []; functions = []; text = []; bodies = []; queries = record { input = i; row = row } ∷ [] }
+gives (set_query q) = record { types = []; expressions = []; arms = []; functions = []; text = []; bodies = []; queries = q ∷ [] }
 gives clear = nothing
 
 abbrev pub joined : Given → Given → Given

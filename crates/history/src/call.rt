@@ -1,37 +1,15 @@
+use rows::{Query, RawArm, RawExpression, RawType};
+
 /// A call of a session, with what it is given.
-#[derive(Clone, Copy)]
+// A script's `SessionCall` is another type: it owns its text, and has `Tags`, which changes nothing. A history lends its texts.
+#[derive(Clone, Copy, PartialEq, Eq, Debug)]
 pub enum Call<'a> {
     Clear,
-    AddText {
-        text: &'a [u8],
-    },
-    AddType {
-        kind: u8,
-        a: u32,
-        b: u32,
-    },
-    AddFunction {
-        parameter: u32,
-        result: u32,
-    },
-    AddArm {
-        kind: u8,
-        tag: u32,
-        body: u32,
-    },
-    AddExpression {
-        kind: u8,
-        a: i64,
-        b: u32,
-        c: u32,
-        d: u32,
-    },
-    SetBody {
-        function: u32,
-        row: u32,
-    },
-    SetQuery {
-        input: u32,
-        row: u32,
-    },
+    AddText { text: &'a [u8] },
+    AddType(RawType),
+    AddFunction { parameter: u32, result: u32 },
+    AddArm(RawArm),
+    AddExpression(RawExpression),
+    SetBody { function: u32, row: u32 },
+    SetQuery(Query),
 }

@@ -15,8 +15,9 @@ pub fn replay(calls: &[Call<'_>], answers: &mut [Result<u32, Fault>]) -> Session
 {
     let mut session = Session::new();
     let count = calls.len().min(answers.len());
-    for index in 0..count {
-        answers[index] = apply(&mut session, &calls[index]);
+    // Answers are written by their places: of a zipped `iter_mut` no proof knows what was written.
+    for (index, call) in calls[..count].iter().enumerate() {
+        answers[index] = apply(&mut session, call);
     }
     session
 }
@@ -31,20 +32,18 @@ fn apply(session: &mut Session, call: &Call<'_>) -> Result<u32, Fault>
             Ok(0)
         }
         Call::AddText { text } => session.add_text(text),
-        Call::AddType { kind, a, b } => session.add_type(kind, a, b),
+        Call::AddType(row) => session.add_type(row),
         Call::AddFunction { parameter, result } => session.add_function(parameter, result),
-        Call::AddArm { kind, tag, body } => session.add_arm(kind, tag, body),
-        Call::AddExpression { kind, a, b, c, d } => session.add_expression(kind, a, b, c, d),
+        Call::AddArm(arm) => session.add_arm(arm),
+        Call::AddExpression(row) => session.add_expression(row),
         Call::SetBody { function, row } => placeless(session.set_body(function, row)),
-        Call::SetQuery { input, row } => placeless(session.set_query(input, row)),
+        Call::SetQuery(query) => placeless(session.set_query(query)),
     }
 }
 
+/// The answer of a call that answers no place: 0 where it was accepted.
 fn placeless(answer: Result<(), Fault>) -> Result<u32, Fault>
     ensures { result ≡ answered answer }
 {
-    match answer {
-        Ok(()) => Ok(0),
-        Err(fault) => Err(fault),
-    }
+    answer.map(|()| 0)
 }

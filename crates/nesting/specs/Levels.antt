@@ -1,5 +1,5 @@
 -- Levels of a walk down the trees of a store: a mark for each tree says whether it stands at the level.
-use Rattle.std.specs.Prelude.{ℕ, ◌+◌, max, Bool, true, cond, List, [], ◌∷◌, slice_set}
+use Rattle.std.specs.Prelude.{ℕ, ◌+◌, max, Bool, cond, List, [], ◌∷◌}
 use Rattle.forest.specs.Forests.{Item, scalar, element, depth}
 
 abbrev pub item_depth : Item → ℕ
@@ -11,8 +11,3 @@ abbrev pub deepest : List Item → List Bool → ℕ
 deepest [] ms = 0
 deepest (t ∷ ts) [] = 0
 deepest (t ∷ ts) (m ∷ ms) = max (cond m (item_depth t) 0) (deepest ts ms)
-
--- marks after those of some handles are set
-abbrev pub marked : List Bool → List ℕ → List Bool
-marked ms [] = ms
-marked ms (h ∷ hs) = marked (slice_set ms h true) hs

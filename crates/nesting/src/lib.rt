@@ -1,6 +1,6 @@
 #![tactic(auto)]
 
-mod levels;
-mod marks;
+mod level;
+mod nesting;
 
-pub use levels::{MAX_NESTING, nested_too_deep};
+pub use nesting::{MAX_NESTING, nested_too_deep};

@@ -1,2 +1,1 @@
 pub mod Overlays
-pub mod Places

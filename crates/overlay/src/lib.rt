@@ -1,6 +1,5 @@
 #![tactic(auto)]
 
 mod overlay;
-mod place;
 
 pub use overlay::Overlay;

@@ -1,14 +1,11 @@
-ghost use Rattle.std.specs.Prelude.{◌≡◌, ℕ, length, MatchResult};
+ghost use Rattle.std.specs.Prelude.{◌≡◌, ◌<◌, min, true, ◌↔◌, length, MatchResult, IsTrue};
+ghost use Rattle.forest.specs.Forests.{forest, lawful};
 ghost use Rattle.arena.specs.Arenas.{means_over};
-ghost use Rattle.overlay.specs.Overlays.{lower, opened};
-ghost use Rattle.overlay.specs.Places.{Placed};
+ghost use Rattle.overlay.specs.Overlays.{opened};
 
-use crate::place::Place;
 use arena::Arena;
 use forest::{Fault, Kind, Space, Store};
 use std::alloc::Global;
-
-const OVERLAY: u8 = 6;
 
 /// The most that an overlay allows.
 const MOST: Space = Space {
@@ -22,52 +19,69 @@ const MOST: Space = Space {
 pub struct Overlay<S: Store + Drop> {
     below: S,
     own: Arena,
+    ghost fits: { own.base ≡ length (S.Store.means below).trees },
+    ghost lawful_below: { lawful (forest (S.Store.means below).trees) ≡ true },
 }
 
 impl<S: Store + Drop> Overlay<S> {
     /// Opens an overlay with these allowances, as far as they may go. Memory for all of them is taken now; where it is short the store
     /// comes back as it was.
-    pub fn open(heap: Global, below: S, allowances: Space) -> Result<Overlay<S>, S>
-        ensures { MatchResult result (λ t. means_over (lower t.own.base (S.Store.means t.below).trees) t.own ≡ record { trees = (S.Store.means below).trees; space = opened (length (S.Store.means below).trees) allowances }) (λ s. s ≡ below) }
+    pub fn open(alloc: Global, below: S, allowances: Space) -> Result<Overlay<S>, S>
+        ensures { MatchResult result (λ t. means_over (S.Store.means t.below).trees t.own ≡ record { trees = (S.Store.means below).trees; space = opened (length (S.Store.means below).trees) allowances }) (λ s. s ≡ below) }
     {
-        let space = Space {
-            trees: allowances.trees.min(MOST.trees),
-            children: allowances.children.min(MOST.children),
-            bytes: allowances.bytes.min(MOST.bytes),
-        };
-        match Arena::open(heap, below.count(), space) {
+        match Arena::open(alloc, below.count(), cut(allowances)) {
             Ok(own) => Ok(Overlay { below, own }),
             Err(_) => Err(below),
         }
     }
 
-    fn place(&self, handle: u32) -> Place
-        ensures { Placed self.now.own.base (length (S.Store.means self.now.below).trees) handle result }
+    /// The overlay with these allowances in place of what was left of its own, as if another were opened over it. Where memory is short,
+    /// or it holds almost a million of anything, it comes back as it was.
+    pub fn renew(self, alloc: Global, allowances: Space) -> Result<Overlay<S>, Overlay<S>>
+        ensures { MatchResult result (λ t. means_over (S.Store.means t.below).trees t.own ≡ record { trees = (means_over (S.Store.means self.below).trees self.own).trees; space = opened (length (means_over (S.Store.means self.below).trees self.own).trees) allowances }) (λ t. t ≡ self) }
     {
-        let base = self.own.base();
-        if handle >= base {
-            Place::Own
-        } else if self.below.count() == base {
-            Place::Below
-        } else {
-            Place::Lost
+        let space = cut(allowances);
+        let Ok(own) = self.own.renewed(alloc, space) else {
+            return Err(self);
+        };
+        let allowed = own.space();
+        if allowed.children < space.children || allowed.bytes < space.bytes {
+            return Err(self);
         }
+        Ok(Overlay {
+            below: self.below,
+            own,
+        })
+    }
+
+    /// Whether a handle is one of the store below.
+    fn is_below(&self, handle: u32) -> bool
+        ensures { IsTrue result ↔ (handle < self.now.own.base) }
+    {
+        handle < self.own.base()
     }
 }
 
-impl<S: Store + Drop> Store for Overlay<S> {
-    const LAYER: u8 = OVERLAY;
-
-    ghost layer = { 6 };
-
-    ghost means = { λ t. means_over (lower t.own.base (S.Store.means t.below).trees) t.own };
-
-    fn layer_number() -> u8 {
-        OVERLAY
+/// Allowances, as far as an overlay may have them.
+fn cut(allowances: Space) -> Space
+    ensures { result ≡ record { trees = min allowances.trees 2048; children = min allowances.children 4096; bytes = min allowances.bytes 4096 } }
+{
+    Space {
+        trees: allowances.trees.min(MOST.trees),
+        children: allowances.children.min(MOST.children),
+        bytes: allowances.bytes.min(MOST.bytes),
     }
+}
+
+#[tactic(auto, using(crate::proofs::Lower::below))]
+impl<S: Store + Drop> Store for Overlay<S> {
+    const LAYER: u8 = 6;
+
+    ghost LAYER = { 6 };
+
+    ghost means = { λ t. means_over (S.Store.means t.below).trees t.own };
 
     fn count(&self) -> u32 {
-        let _lawful = self.below.count();
         self.own.count()
     }
 
@@ -75,75 +89,75 @@ impl<S: Store + Drop> Store for Overlay<S> {
         self.own.space()
     }
 
-    fn kind(&self, handle: u32) -> Kind {
-        match self.place(handle) {
-            Place::Own => self.own.kind(handle),
-            Place::Below => self.below.kind(handle),
-            Place::Lost => Kind::Boolean,
+    fn kind(&self, handle: u32) -> Option<Kind> {
+        if self.is_below(handle) {
+            self.below.kind(handle)
+        } else {
+            self.own.kind(handle)
         }
     }
 
     fn tag(&self, handle: u32) -> u16 {
-        match self.place(handle) {
-            Place::Own => self.own.tag(handle),
-            Place::Below => self.below.tag(handle),
-            Place::Lost => 0,
+        if self.is_below(handle) {
+            self.below.tag(handle)
+        } else {
+            self.own.tag(handle)
         }
     }
 
     fn child_count(&self, handle: u32) -> u32 {
-        match self.place(handle) {
-            Place::Own => self.own.child_count(handle),
-            Place::Below => self.below.child_count(handle),
-            Place::Lost => 0,
+        if self.is_below(handle) {
+            self.below.child_count(handle)
+        } else {
+            self.own.child_count(handle)
         }
     }
 
     fn child(&self, handle: u32, index: u32) -> u32 {
-        match self.place(handle) {
-            Place::Own => self.own.child(handle, index),
-            Place::Below => self.below.child(handle, index),
-            Place::Lost => 0,
+        if self.is_below(handle) {
+            self.below.child(handle, index)
+        } else {
+            self.own.child(handle, index)
         }
     }
 
     fn value(&self, handle: u32) -> i64 {
-        match self.place(handle) {
-            Place::Own => self.own.value(handle),
-            Place::Below => self.below.value(handle),
-            Place::Lost => 0,
+        if self.is_below(handle) {
+            self.below.value(handle)
+        } else {
+            self.own.value(handle)
         }
     }
 
     fn text_length(&self, handle: u32) -> u32 {
-        match self.place(handle) {
-            Place::Own => self.own.text_length(handle),
-            Place::Below => self.below.text_length(handle),
-            Place::Lost => 0,
+        if self.is_below(handle) {
+            self.below.text_length(handle)
+        } else {
+            self.own.text_length(handle)
         }
     }
 
     fn text_byte(&self, handle: u32, index: u32) -> u8 {
-        match self.place(handle) {
-            Place::Own => self.own.text_byte(handle, index),
-            Place::Below => self.below.text_byte(handle, index),
-            Place::Lost => 0,
+        if self.is_below(handle) {
+            self.below.text_byte(handle, index)
+        } else {
+            self.own.text_byte(handle, index)
         }
     }
 
     fn make_integer(&mut self, value: i64) -> Result<u32, Fault> {
-        self.own.make_integer(Self::layer_number(), value)
+        self.own.make_integer(Self::LAYER, value)
     }
 
     fn make_boolean(&mut self, value: u32) -> Result<u32, Fault> {
-        self.own.make_boolean(Self::layer_number(), value)
+        self.own.make_boolean(Self::LAYER, value)
     }
 
     fn make_string(&mut self, text: &[u8]) -> Result<u32, Fault> {
-        self.own.make_string(Self::layer_number(), text)
+        self.own.make_string(Self::LAYER, text)
     }
 
     fn make_element(&mut self, tag: u32, children: &[u32]) -> Result<u32, Fault> {
-        self.own.make_element(Self::layer_number(), tag, children)
+        self.own.make_element(Self::LAYER, tag, children)
     }
 }

@@ -25,6 +25,7 @@ impl From<io::Error> for Stop {
     }
 }
 
+/// What `main` prints of its error is its Debug form, and this program prints a text in quotes.
 impl fmt::Debug for Stop {
     fn fmt<W: fmt::Write>(&self, f: &mut fmt::Formatter<W>) -> fmt::Result {
         match self {

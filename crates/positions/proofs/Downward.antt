@@ -1,6 +1,6 @@
 -- Rows give their parts what they have, from the highest row down.
-use Rattle.std.proofs.Common.{◌≡◌, ℕ, ◌+◌, ◌<◌, ◌≤◌, Bool, true, false, cond, ◌||◌, eqb, ◌≢◌, List, length, get_or, set, sym, refl, ap, ◌∙◌, subst, inl, inr, arith}
-use Rattle.std.proofs.lemmas.List.{get_or-set_same, get_or-set_other, length-set}
+use Rattle.std.proofs.Common.{◌≡◌, ℕ, ◌+◌, ◌<◌, ◌≤◌, Bool, true, false, cond, ◌||◌, eqb, ◌≢◌, List, [], ◌∷◌, ◌++◌, length, get_or, set, take, sym, refl, ap, ◌∙◌, subst, inl, inr, arith}
+use Rattle.std.proofs.lemmas.List.{get_or-set_same, get_or-set_other, length-set, length-take-le, length_push, take_at, take-take, get_or-take, get_or_push}
 use Rattle.std.proofs.lemmas.Bool.{both_ways, eqb-true, eqb-false, eq-eqb, ne_eqb, or_cases, or_parts, cases_eq, cases_Bool}
 use Rattle.rows.specs.declared.type_row.TypeRow.{TypeRow}
 use Rattle.rows.specs.declared.type_row.TypeRow.TheVariants.{EmptyChoice, EmptySequence, Integer, String, Boolean, Element, AnyElement, Sequence, Choice, Repetition}
@@ -90,3 +90,42 @@ module _ {A : Type 0} {ts : List TypeRow} (law : Lawful ts) (end : ℕ) (none : 
               ∙ old.parts s p (omega arith) h o ∙ ap (by s p) (sym (still s q))
         ];
       }
+
+-- A WALK ALONG THE ROWS FROM THE HIGHEST DOWN
+
+-- the rows that are left are the lowest of the table, and those above them have given
+pub record Descending {A : Type 0} (ts : List TypeRow) (end : ℕ) (none : A) (start : ℕ → A) (first : TypeRow → A → A) (l : List A) (left : List TypeRow) : Type 0 where
+  pub within : length left ≤ end
+  pub lowest : left ≡ take (length left) ts
+  pub down : GivenDown ts end none start first l (length left)
+
+module _ {A : Type 0} {ts : List TypeRow} (law : Lawful ts) (end : ℕ) (none : A) (start : ℕ → A) (first : TypeRow → A → A) (l : List A) where
+  pub descend_start : (left us : List TypeRow) → us ≡ ts → left ≡ take end us → end ≤ length ts → ((r : ℕ) → r < 512 → get_or l r none ≡ start r) → Descending ts end none start first l left
+  descend_start left us same is few h =
+      let at : left ≡ take end ts = is ∙ ap (take end) same in
+      let long : length left ≡ end = ap length at ∙ length-take-le end ts few in
+      record {
+        within = omega arith;
+        lowest = at ∙ ap (λ n. take n ts) (sym long);
+        down = subst (GivenDown ts end none start first l) (sym long) (down_start law end none start first l h);
+      }
+
+  pub descend_more : (before after : List TypeRow) (w : TypeRow) (k : ℕ) {m : List A} → end ≤ length ts → length l ≡ 512 → before ≡ after ++ w ∷ [] → k ≡ length after
+      → m ≡ given w (first w (get_or l k none)) (get_or l k none) l → Descending ts end none start first l before → Descending ts end none start first m after
+  descend_more before after w k {m} few long is at new d =
+      let size : length before ≡ length after + 1 = ap length is ∙ length_push after w in
+      let within = d.within in
+      let low : before ≡ take (length after + 1) ts = d.lowest ∙ ap (λ n. take n ts) size in
+      let rest : after ≡ take (length after) ts = sym (take_at after (w ∷ []) (length after) refl) ∙ ap (take (length after)) (sym is ∙ low) ∙ take-take (length after) (length after + 1) ts (omega arith) in
+      let here : row ts (length after) ≡ w =
+      sym (get_or-take (length after + 1) ts (length after) EmptyChoice (omega arith)) ∙ ap (λ us. get_or us (length after) EmptyChoice) (sym low ∙ is) ∙ get_or_push after w EmptyChoice (length after) refl in
+      let by : TypeRow → ℕ → List A = λ v n. given v (first v (get_or l n none)) (get_or l n none) l in
+      record {
+        within = omega arith;
+        lowest = rest;
+        down = subst (λ z. GivenDown ts end none start first z (length after)) (ap (λ v. by v (length after)) here ∙ ap (by w) (sym at) ∙ sym new)
+            (down_more law end none start first l (length after) few long (omega arith) (subst (GivenDown ts end none start first l) size d.down));
+      }
+
+  pub descend_end : (left : List TypeRow) → length left ≡ 0 → Descending ts end none start first l left → GivenDown ts end none start first l 0
+  descend_end left e d = subst (GivenDown ts end none start first l) e d.down

@@ -1,43 +1,14 @@
 -- Tables of bits that grow row by row.
-use Rattle.std.proofs.Common.{◌≡◌, ℕ, ◌+◌, ◌*◌, ◌/◌, ◌%◌, ◌<◌, ◌≤◌, Bool, true, false, ◌&&◌, ◌||◌, T, ◌≢◌, List, length, sym, refl, ap, ◌∙◌, subst, inl, inr, arith}
-use Rattle.std.proofs.lemmas.Bool.{cases_eq, cases_lt, eq-eqb, ne_eqb, both_ways}
-use Rattle.bits.specs.Bits.{bit, United}
+use Rattle.std.proofs.Common.{◌≡◌, ℕ, ◌+◌, ◌*◌, ◌/◌, ◌%◌, ◌<◌, ◌≤◌, Bool, true, false, ◌&&◌, ◌||◌, ◌≢◌, List, length, sym, ap, ◌∙◌, subst, inl, inr, arith}
+use Rattle.std.proofs.lemmas.Bool.{cases_eq, cases_lt, eq-eqb, ne_eqb}
+use Rattle.std.proofs.Math.Bool.{or_assoc, or-false}
+use Rattle.types.proofs.Exact.{exactly_same, exactly_none}
+use Rattle.bits.specs.Bits.{bit, related, United}
 use Rattle.types.specs.Tables.{Exactly}
-use Rattle.positions.specs.Built.{related}
 use Rattle.rows.specs.declared.type_row.TypeRow.{TypeRow}
 use Rattle.positions.specs.Filling.{ends_by, Grown}
 
--- TESTS AND FACTS
-
-pub is_true : (b : Bool) → T b → b ≡ true
-is_true true h = refl
-is_true false h = absurd h
-
-pub exactly : {b : Bool} {P : Type 0} → (b ≡ true → P) → (P → b ≡ true) → Exactly b P
-exactly {b} f g = (λ t. f (is_true b t), λ p. subst T (sym (g p)) tt)
-
-pub known : {b : Bool} {P : Type 0} → Exactly b P → b ≡ true → P
-known x e = x.0 (subst T (sym e) tt)
-
-pub shown : {b : Bool} {P : Type 0} → Exactly b P → P → b ≡ true
-shown {b} x p = is_true b (x.1 p)
-
-pub exactly_same : {a b : Bool} {P : Type 0} → a ≡ b → Exactly b P → Exactly a P
-exactly_same {P = P} e x = subst (λ z. Exactly z P) (sym e) x
-
--- the test fails, and so does the fact
-pub exactly_none : {b : Bool} {P : Type 0} → b ≡ false → (P → ⊥) → Exactly b P
-exactly_none {b} e h = exactly (λ t. absurd (both_ways b e t)) (λ p. absurd (h p))
-
 -- ONE ROW
-
-pub or_false : (b : Bool) → (b || false) ≡ b
-or_false true = refl
-or_false false = refl
-
-or_assoc : (a b c : Bool) → ((a || b) || c) ≡ (a || (b || c))
-or_assoc true b c = refl
-or_assoc false b c = refl
 
 pub grown-same : {ws vs : List ℕ} {r : ℕ} {f g : ℕ → Bool} → ((n : ℕ) → n < 512 → f n ≡ g n) → Grown ws vs r f → Grown ws vs r g
 grown-same {ws} {r = r} e h = record { others = h.others; here = λ n l. h.here n l ∙ ap (λ b. related ws r n || b) (e n l) }
@@ -54,7 +25,7 @@ grown-unite ws vs to from long low h =
     record {
       others = λ r n e l.
           let q : (r * 512 + n) / 512 ≢ to = omega arith in
-          bits (r * 512 + n) ∙ ap (λ b. bit ws (r * 512 + n) || (b && bit ws (from * 512 + (r * 512 + n) % 512))) (ne_eqb ((r * 512 + n) / 512) to q) ∙ or_false (bit ws (r * 512 + n));
+          bits (r * 512 + n) ∙ ap (λ b. bit ws (r * 512 + n) || (b && bit ws (from * 512 + (r * 512 + n) % 512))) (ne_eqb ((r * 512 + n) / 512) to q) ∙ or-false (bit ws (r * 512 + n));
       here = λ n l.
           let q : (to * 512 + n) / 512 ≡ to = omega arith in
           let m : (to * 512 + n) % 512 ≡ n = omega arith in
@@ -99,4 +70,4 @@ pub null_left : (x y : Bool) {z : Bool} → true ≡ z → (x || y) ≡ (x || (z
 null_left x y e = ap (λ z. x || (z && y)) e
 
 pub not_null_left : (x y : Bool) {z : Bool} → false ≡ z → x ≡ (x || (z && y))
-not_null_left x y e = sym (or_false x) ∙ ap (λ z. x || (z && y)) e
+not_null_left x y e = sym (or-false x) ∙ ap (λ z. x || (z && y)) e

@@ -1,7 +1,7 @@
 -- Nullable rows, first items and last items, by one row and its parts.
 use Rattle.std.proofs.Common.{◌≡◌, ℕ, ◌+◌, ◌<◌, ◌≤◌, Bool, true, false, ◌&&◌, eqb, ◌≢◌, List, length, set, Some, sym, refl, ap, ◌∙◌, subst, inl, inr, arith}
 use Rattle.std.proofs.lemmas.List.{get_or_past, get_or-set_same, get_or-set_other}
-use Rattle.std.proofs.lemmas.Bool.{cases_eq, cases_lt, both_ways, and_parts, and_from, or_cases, or_left, or_right, eqb-true, eq-eqb}
+use Rattle.std.proofs.lemmas.Bool.{cases_eq, cases_lt, and_parts, and_from, or_cases, or_left, or_right, eqb-true, eq-eqb, false≢true}
 use Rattle.rows.specs.declared.type_row.TypeRow.{TypeRow}
 use Rattle.rows.specs.declared.type_row.TypeRow.TheVariants.{EmptyChoice, EmptySequence, Integer, String, Boolean, Element, AnyElement, Sequence, Choice, Repetition}
 use Rattle.rows.specs.TypeRows.{owns}
@@ -11,12 +11,10 @@ use Rattle.types.specs.Determinism.First.{item as f-item, of_left, past_left, of
 use Rattle.types.specs.Determinism.Last.{item as l-item, of_right, before_right, of_first as l-first, of_second as l-second, of_part as l-part}
 use Rattle.types.specs.Tables.{Exactly}
 use Rattle.types.proofs.Contexts.{PartOf, left, right, first, second, repeats, owns-part}
-use Rattle.positions.specs.Built.{flag, related}
+use Rattle.bits.specs.Bits.{related}
+use Rattle.positions.specs.Below.{flag}
 use Rattle.positions.specs.Filling.{null_by, ends_by, turned}
-use Rattle.positions.proofs.Growing.{exactly, exactly_same, exactly_none, known, shown, Filled}
-
-pub no : {X : Type 0} → false ≡ true → X
-no e = absurd (both_ways false refl e)
+use Rattle.types.proofs.Exact.{exactly, exactly_same, exactly_none, known, shown}
 
 -- past the end a row is the empty choice
 pub past_row : (ts : List TypeRow) (r : ℕ) → length ts ≤ r → row ts r ≡ EmptyChoice
@@ -40,36 +38,40 @@ pub record Nulls (ts : List TypeRow) (t : List Bool) (k : ℕ) : Type 0 where
   pub rest : (r : ℕ) → k ≤ r → flag t r ≡ false
 
 module _ {ts : List TypeRow} (law : Lawful ts) where
-  null_of : (t : List Bool) (k : ℕ) → Nulls ts t k → (w : TypeRow) → row ts k ≡ w → null_by t w ≡ true → Nullable ts k
-  null_of t k h EmptyChoice e x = no x
+  null_of : (t : List Bool) (k : ℕ) → ((r : ℕ) → r < k → Exactly (flag t r) (Nullable ts r)) → (w : TypeRow) → row ts k ≡ w → null_by t w ≡ true → Nullable ts k
+  null_of t k h EmptyChoice e x = absurd (false≢true x)
   null_of t k h EmptySequence e x = empty e
-  null_of t k h Integer e x = no x
-  null_of t k h String e x = no x
-  null_of t k h Boolean e x = no x
-  null_of t k h (Element g c) e x = no x
-  null_of t k h (AnyElement c) e x = no x
+  null_of t k h Integer e x = absurd (false≢true x)
+  null_of t k h String e x = absurd (false≢true x)
+  null_of t k h Boolean e x = absurd (false≢true x)
+  null_of t k h (Element g c) e x = absurd (false≢true x)
+  null_of t k h (AnyElement c) e x = absurd (false≢true x)
   null_of t k h (Sequence a b) e x =
       let y = and_parts (flag t a) (flag t b) x in
-      both_parts e (known (h.below a (part_low law k e (left refl))) y.0) (known (h.below b (part_low law k e (right refl))) y.1)
+      both_parts e (known (h a (part_low law k e (left refl))) y.0) (known (h b (part_low law k e (right refl))) y.1)
   null_of t k h (Choice a b) e x = elim (or_cases (flag t a) (flag t b) x) [
-    | inl y ↦ first_part e (known (h.below a (part_low law k e (first refl))) y)
-    | inr y ↦ second_part e (known (h.below b (part_low law k e (second refl))) y)
+    | inl y ↦ first_part e (known (h a (part_low law k e (first refl))) y)
+    | inr y ↦ second_part e (known (h b (part_low law k e (second refl))) y)
   ]
   null_of t k h (Repetition a) e x = repeated e
 
-  of_null : (t : List Bool) {k : ℕ} → Nulls ts t k → Nullable ts k → null_by t (row ts k) ≡ true
+  of_null : (t : List Bool) {k : ℕ} → ((r : ℕ) → r < k → Exactly (flag t r) (Nullable ts r)) → Nullable ts k → null_by t (row ts k) ≡ true
   of_null t h (empty e) = ap (null_by t) e
   of_null t h (repeated e) = ap (null_by t) e
-  of_null t {k} h (both_parts {a = a} {b} e x y) = ap (null_by t) e ∙ and_from (flag t a) (flag t b) (shown (h.below a (part_low law k e (left refl))) x) (shown (h.below b (part_low law k e (right refl))) y)
-  of_null t {k} h (first_part {a = a} {b} e x) = ap (null_by t) e ∙ or_left (flag t a) (flag t b) (shown (h.below a (part_low law k e (first refl))) x)
-  of_null t {k} h (second_part {a = a} {b} e x) = ap (null_by t) e ∙ or_right (flag t a) (flag t b) (shown (h.below b (part_low law k e (second refl))) x)
+  of_null t {k} h (both_parts {a = a} {b} e x y) = ap (null_by t) e ∙ and_from (flag t a) (flag t b) (shown (h a (part_low law k e (left refl))) x) (shown (h b (part_low law k e (right refl))) y)
+  of_null t {k} h (first_part {a = a} {b} e x) = ap (null_by t) e ∙ or_left (flag t a) (flag t b) (shown (h a (part_low law k e (first refl))) x)
+  of_null t {k} h (second_part {a = a} {b} e x) = ap (null_by t) e ∙ or_right (flag t a) (flag t b) (shown (h b (part_low law k e (second refl))) x)
+
+  -- a row may be nothing exactly if it may by its parts
+  pub null_step : (t : List Bool) (k : ℕ) → ((r : ℕ) → r < k → Exactly (flag t r) (Nullable ts r)) → Exactly (null_by t (row ts k)) (Nullable ts k)
+  null_step t k h = exactly (null_of t k h (row ts k) refl) (of_null t h)
 
   pub nulls_more : (t : List Bool) (k : ℕ) → k < length t → Nulls ts t k → Nulls ts (set t k (null_by t (row ts k))) (k + 1)
   nulls_more t k lt h =
       let w = null_by t (row ts k) in
       record {
         below = λ r l. elim (cases_eq r k) [
-          | inl i ↦ subst (λ x. Exactly (flag (set t k w) x) (Nullable ts x)) (sym i) (exactly_same (get_or-set_same t k w false lt) (exactly (null_of t k h (row ts k) refl) (of_null t h)))
+          | inl i ↦ subst (λ x. Exactly (flag (set t k w) x) (Nullable ts x)) (sym i) (exactly_same (get_or-set_same t k w false lt) (null_step t k h.below))
           | inr i ↦ exactly_same (get_or-set_other t k r w false i) (h.below r (omega arith))
         ];
         rest = λ r l. get_or-set_other t k r w false (omega arith) ∙ h.rest r (omega arith);
@@ -118,13 +120,13 @@ turned-label (Choice a b) = refl
 turned-label (Repetition a) = refl
 
 module _ {ts : List TypeRow} (law : Lawful ts) (t : List Bool) (nulls : (r : ℕ) → Exactly (flag t r) (Nullable ts r)) (ws : List ℕ) (k n : ℕ) (lt : n < 512) where
-  module _ (h : Filled (First ts) ws k) where
+  module _ (below : (r m : ℕ) → r < k → m < 512 → Exactly (related ws r m) (First ts r m)) where
     at_first : {p : ℕ} {w : TypeRow} → row ts k ≡ w → PartOf p w → Exactly (related ws p n) (First ts p n)
-    at_first {p} e i = h.below p n (part_low law k e i) lt
+    at_first {p} e i = below p n (part_low law k e i) lt
 
     first_of : (w : TypeRow) → row ts k ≡ w → ends_by t ws k w n ≡ true → First ts k n
-    first_of EmptyChoice e x = no x
-    first_of EmptySequence e x = no x
+    first_of EmptyChoice e x = absurd (false≢true x)
+    first_of EmptySequence e x = absurd (false≢true x)
     first_of Integer e x = f-item (ap label e) (eqb-true n k x)
     first_of String e x = f-item (ap label e) (eqb-true n k x)
     first_of Boolean e x = f-item (ap label e) (eqb-true n k x)
@@ -151,13 +153,13 @@ module _ {ts : List TypeRow} (law : Lawful ts) (t : List Bool) (nulls : (r : ℕ
     pub first_step : Exactly (ends_by t ws k (row ts k) n) (First ts k n)
     first_step = exactly (first_of (row ts k) refl) of_first
 
-  module _ (h : Filled (Last ts) ws k) where
+  module _ (below : (r m : ℕ) → r < k → m < 512 → Exactly (related ws r m) (Last ts r m)) where
     at_last : {p : ℕ} {w : TypeRow} → row ts k ≡ w → PartOf p w → Exactly (related ws p n) (Last ts p n)
-    at_last {p} e i = h.below p n (part_low law k e i) lt
+    at_last {p} e i = below p n (part_low law k e i) lt
 
     last_of : (w : TypeRow) → row ts k ≡ w → ends_by t ws k (turned w) n ≡ true → Last ts k n
-    last_of EmptyChoice e x = no x
-    last_of EmptySequence e x = no x
+    last_of EmptyChoice e x = absurd (false≢true x)
+    last_of EmptySequence e x = absurd (false≢true x)
     last_of Integer e x = l-item (ap label e) (eqb-true n k x)
     last_of String e x = l-item (ap label e) (eqb-true n k x)
     last_of Boolean e x = l-item (ap label e) (eqb-true n k x)

@@ -1,6 +1,6 @@
 mod Growing
 mod Items
-mod Walks
+mod Overlaps
 mod Meeting
 mod OneWay
 mod Downward
@@ -9,4 +9,4 @@ mod Marks
 mod Remainders
 mod Fresh
 pub mod Reading
-pub mod Skipping
+pub mod Settled

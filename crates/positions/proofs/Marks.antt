@@ -9,7 +9,7 @@ use Rattle.rows.specs.TypeRows.{type_fits}
 use Rattle.types.specs.Parts.{row, Lawful}
 use Rattle.types.specs.Belonging.{join, scalar_row, Belongs, nothing, one_scalar, one_element, any_element, both, by_first, by_second, no_more, one_more}
 use Rattle.types.specs.Places.{Inhabited}
-use Rattle.positions.specs.Built.{flag}
+use Rattle.positions.specs.Below.{flag}
 use Rattle.positions.specs.Life.{lives_by, falses, Marked, Alive, Pass}
 
 and_left : (x y : Bool) → T (x && y) → T x

@@ -1,41 +1,27 @@
 -- A root is one-way exactly if the items at each of its places are clear.
-use Rattle.std.proofs.Common.{◌≡◌, ℕ, ◌+◌, ◌<◌, ◌≤◌, true, false, List, length, Some, sym, refl, ap, ◌∙◌, subst, arith}
-use Rattle.std.proofs.lemmas.List.{length-take-le}
-use Rattle.std.proofs.lemmas.Bool.{both_ways}
+use Rattle.std.proofs.Common.{◌≡◌, ℕ, ◌+◌, ◌<◌, ◌≤◌, true, List, length, refl, ap, ◌∙◌, subst, arith}
 use Rattle.rows.specs.declared.type_row.TypeRow.{TypeRow}
-use Rattle.rows.specs.TypeRows.{owns}
-use Rattle.types.specs.Parts.{row, Root, Lawful, Within, itself, part}
-use Rattle.types.specs.Determinism.{Label, label, First, Last, MeetsAt, in_sequence, in_repetition, Follows, Deterministic}
+use Rattle.types.specs.Parts.{row, Root, Within, itself}
+use Rattle.types.specs.Determinism.{label, First, Last, MeetsAt, in_sequence, in_repetition, Follows, Deterministic}
 use Rattle.types.specs.Determinism.Last.{item, of_right, before_right, of_first, of_second, of_part}
-use Rattle.types.specs.Tables.{rows_of}
-use Rattle.types.specs.declared.type_rows.TypeRows.{TypeRows}
-use Rattle.types.proofs.Rules.{lawful}
+use Rattle.types.proofs.OfTable.{table-lawful}
 use Rattle.types.proofs.Standing.{first-label, meets-first}
 use Rattle.positions.specs.declared.tables.Positions.{Positions}
-use Rattle.positions.specs.Built.{related, MeetsBelow, Built, types_of, top}
+use Rattle.bits.specs.Bits.{related}
+use Rattle.positions.specs.Below.{MeetsBelow}
+use Rattle.positions.specs.Built.{Built, types_of, top}
 use Rattle.positions.specs.Filling.{Clear, ClearItems}
-use Rattle.positions.proofs.Growing.{known, shown}
+use Rattle.types.proofs.Exact.{known, shown}
+use Rattle.positions.proofs.Reading.{item-there, one-root}
 use Rattle.positions.proofs.Items.{there}
-
--- ROOTS
-
--- a row within two roots: they are one
-pub one-root : {ts : List TypeRow} → Lawful ts → {r q p : ℕ} → Root ts r → Root ts q → Within ts r p → Within ts q p → r ≡ q
-one-root law x y (itself e) (itself d) = sym e ∙ d
-one-root {ts} law {r} {q} {p} x y (itself e) (part {s} h o) = absurd (both_ways (owns (row ts s) p) (subst (λ z. owns (row ts s) z ≡ false) (sym e) (x.unowned s)) o)
-one-root {ts} law {r} {q} {p} x y (part {s} h o) (itself e) = absurd (both_ways (owns (row ts s) p) (subst (λ z. owns (row ts s) z ≡ false) (sym e) (y.unowned s)) o)
-one-root {ts} law {r} {q} {p} x y (part {s} h o) (part {s = u} g w) = one-root law x y (subst (Within ts r) (law.one_owner s u p o w) h) g
 
 -- ITEMS ARE ROWS OF THE TABLE
 
-item-there : (ts : List TypeRow) (n : ℕ) → (l : Label) × (label (row ts n) ≡ Some l) → n < length ts
-item-there ts n h = there ts n (λ e. let i = h.1 in let z : ◌≡◌ {A = ℕ} 0 1 = cc (ap label e) in omega arith)
-
 first-in : {ts : List TypeRow} {r n : ℕ} → First ts r n → n < length ts
-first-in {ts} {n = n} h = item-there ts n (first-label h)
+first-in {ts} {n = n} h = item-there ts n (first-label h).1
 
 last_in : {ts : List TypeRow} {r n : ℕ} → Last ts r n → n < length ts
-last_in {ts} {n = n} (item {l = l} e i) = item-there ts n (l, ap (λ x. label (row ts x)) i ∙ e)
+last_in {ts} {n = n} (item {l = l} e i) = item-there ts n {l = l} (ap (λ x. label (row ts x)) i ∙ e)
 last_in (of_right e h) = last_in h
 last_in (before_right e z h) = last_in h
 last_in (of_first e h) = last_in h
@@ -55,25 +41,19 @@ follows-below h = (h.0, (meets-there h.1, h.1))
 
 -- THE TABLES
 
-pub long : (t : TypeRows) → length (rows_of t) ≡ t.count
-long t = let a = t.few in let b = t.long in length-take-le t.count t.rows (omega arith)
-
-pub law_of : (p : Positions) → Lawful (types_of p)
-law_of p = let a = p.types.few in let b = long p.types in lawful (types_of p) (omega arith) p.types.lawful
-
-module _ {p : Positions} (b : Built p) where
+module _ (p : Positions) (b : Built p) where
   abbrev ts : List TypeRow
   ts = types_of p
 
   abbrev next : List ℕ
-  next = p.whole.next
+  next = p.whole.next.words
 
   few : length (types_of p) ≤ 512
-  few = (law_of p).few
+  few = (table-lawful p.types).few
 
   -- the top of a row is the root that it is within
   pub is-top : (r q : ℕ) → q < length ts → Root ts r → Within ts r q → top p q ≡ r
-  is-top r q l x w = one-root (law_of p) (b.top_root q l) x (b.top_within q l) w
+  is-top r q l x w = one-root (table-lawful p.types) (b.top_root q l) x (b.top_within q l) w
 
   pub of_top : (r q : ℕ) → q < length ts → top p q ≡ r → Within ts r q
   of_top r q l e = subst (λ z. Within ts z q) e (b.top_within q l)

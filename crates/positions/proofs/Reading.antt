@@ -1,5 +1,6 @@
 -- What the tables of positions say of places.
-use Rattle.std.proofs.Common.{◌≡◌, ℕ, ◌+◌, ◌<◌, ◌≤◌, Bool, true, false, T, ◌⊎◌, List, length, Some, None, Option, sym, refl, ap, ◌∙◌, subst, inl, inr, arith}
+use Rattle.std.proofs.Common.{◌≡◌, ℕ, ◌+◌, ◌<◌, ◌≤◌, true, ◌⊎◌, List, length, Some, None, Option, sym, refl, ap, ◌∙◌, subst, inl, inr, arith}
+use Rattle.std.proofs.lemmas.Bool.{cases_lt, false≢true}
 use Rattle.std.proofs.lemmas.List.{get_or_past}
 use Rattle.rows.specs.declared.type_row.TypeRow.{TypeRow}
 use Rattle.rows.specs.declared.type_row.TypeRow.TheVariants.{EmptyChoice}
@@ -8,25 +9,16 @@ use Rattle.types.specs.Determinism.{Label, label, First, Last, MeetsAt, in_seque
 use Rattle.types.specs.Determinism.First.{item as f-item, of_left, past_left, of_first as f-first, of_second as f-second, of_part as f-part}
 use Rattle.types.specs.Determinism.Last.{item as l-item, of_right, before_right, of_first as l-first, of_second as l-second, of_part as l-part}
 use Rattle.types.specs.Places.{Place, start, behind, FollowsIn, Next, next_first, next_follow, Inhabited, Useful, useful}
-use Rattle.types.proofs.Rules.{place}
+use Rattle.types.proofs.Exact.{known, shown}
 use Rattle.types.proofs.Contexts.{left, right, first, second, repeats, owned, within-left, low}
-use Rattle.positions.specs.declared.tables.Moves.{Moves}
-use Rattle.positions.specs.Built.{flag, related, MeetsBelow, FreeBelow, MovesBelow}
-
-pub true-test : (b : Bool) → T b → b ≡ true
-true-test true h = refl
-true-test false h = absurd h
-
-pub test_true : (b : Bool) → b ≡ true → T b
-test_true true e = tt
-test_true false e = let z : ◌≡◌ {A = ℕ} 0 1 = cc in absurd (omega arith)
-
-never : {A : Type 0} → false ≡ true → A
-never e = let z : ◌≡◌ {A = ℕ} 0 1 = cc in absurd (omega arith)
+use Rattle.positions.specs.declared.moves.Moves.{Moves}
+use Rattle.bits.specs.Bits.{related}
+use Rattle.positions.specs.Below.{flag, MeetsBelow, FreeBelow}
+use Rattle.positions.specs.Tables.{MovesBelow}
 
 -- an item is a row of the table
 pub item-there : (ts : List TypeRow) (n : ℕ) {l : Label} → label (row ts n) ≡ Some l → n < length ts
-item-there ts n {l} e = elim (place ts n) [ inl lt ↦ lt | inr past ↦ no_item (sym (ap label (get_or_past ts n EmptyChoice past)) ∙ e) ]
+item-there ts n {l} e = elim (cases_lt n (length ts)) [ inl lt ↦ lt | inr past ↦ no_item (sym (ap label (get_or_past ts n EmptyChoice past)) ∙ e) ]
   where
     no_item : {A : Type 0} → ◌≡◌ {A = Option Label} None (Some l) → A
     no_item e = let z : ◌≡◌ {A = ℕ} 0 1 = cc in absurd (omega arith)
@@ -71,7 +63,7 @@ module _ {ts : List TypeRow} (law : Lawful ts) where
     where
       top : {r s : ℕ} → Root ts r → Within ts s r → r ≡ s
       top root (itself e) = e
-      top {r} root (part {s = q} h o) = never (sym (root.unowned q) ∙ o)
+      top {r} root (part {s = q} h o) = absurd (false≢true (sym (root.unowned q) ∙ o))
 
 -- THE TABLES OF MOVES
 
@@ -87,7 +79,7 @@ module _ {ts : List TypeRow} (law : Lawful ts) {end : ℕ} {m : Moves} (below : 
     where
       top : Within ts s c → Within ts c s
       top (itself e) = itself (sym e)
-      top (part {s = q} v o) = let k = within_low law v in never (sym (free q (omega arith)) ∙ o)
+      top (part {s = q} v o) = let k = within_low law v in absurd (false≢true (sym (free q (omega arith)) ∙ o))
 
   within-meets : {x n : ℕ} → FollowsIn ts c x n → MeetsBelow ts end x n
   within-meets (s, (w, h)) = let k = within_low law w in (s, (omega arith, h))
@@ -99,19 +91,19 @@ module _ {ts : List TypeRow} (law : Lawful ts) {end : ℕ} {m : Moves} (below : 
   pub next_small : {p : Place} {at n : ℕ} → At ts c p at → Next ts p n → n < 512
   next_small t x = let k = within_low law (next-within t x) in omega arith
 
-  pub read_next : {p : Place} {at n : ℕ} → At ts c p at → n < 512 → related m.next at n ≡ true → Next ts p n
-  read_next {n = n} at_start lt e = next_first ((below.firsts c n small lt).0 (test_true _ e))
-  read_next {n = n} (at_item {x} w) lt e = let k = within_low law w in next_follow (meets-within w ((below.follows x n (omega arith) lt).0 (test_true _ e)))
+  pub read_next : {p : Place} {at n : ℕ} → At ts c p at → n < 512 → related m.next.words at n ≡ true → Next ts p n
+  read_next {n = n} at_start lt e = next_first (known (below.firsts c n small lt) e)
+  read_next {n = n} (at_item {x} w) lt e = let k = within_low law w in next_follow (meets-within w (known (below.follows x n (omega arith) lt) e))
 
-  pub next-read : {p : Place} {at n : ℕ} → At ts c p at → Next ts p n → related m.next at n ≡ true
-  next-read {n = n} at_start (next_first f) = true-test _ ((below.firsts c n small (next_small at_start (next_first f))).1 f)
-  next-read {n = n} (at_item {x} w) (next_follow f) = let k = within_low law w in true-test _ ((below.follows x n (omega arith) (next_small (at_item w) (next_follow f))).1 (within-meets f))
+  pub next-read : {p : Place} {at n : ℕ} → At ts c p at → Next ts p n → related m.next.words at n ≡ true
+  next-read {n = n} at_start (next_first f) = shown (below.firsts c n small (next_small at_start (next_first f))) f
+  next-read {n = n} (at_item {x} w) (next_follow f) = let k = within_low law w in shown (below.follows x n (omega arith) (next_small (at_item w) (next_follow f))) (within-meets f)
 
-  pub read_useful : {n : ℕ} → Within ts c n → Inhabited ts n → flag m.live n ≡ true → Useful ts c n
-  read_useful {n} w i e = let k = within-left law w in useful i k.1 ((below.live c n k.0 low-c free k.1).0 (test_true _ e))
+  pub read_useful : {n : ℕ} → Within ts c n → Inhabited ts n → flag m.live.marks n ≡ true → Useful ts c n
+  read_useful {n} w i e = let k = within-left law w in useful i k.1 (known (below.live c n k.0 low-c free k.1) e)
 
-  pub useful-live : {n : ℕ} → Useful ts c n → flag m.live n ≡ true
-  useful-live {n} (useful {k} i h a) = true-test _ ((below.live c n k low-c free h).1 a)
+  pub useful-live : {n : ℕ} → Useful ts c n → flag m.live.marks n ≡ true
+  useful-live {n} (useful {k} i h a) = shown (below.live c n k low-c free h) a
 
 pub useful-alive : {ts : List TypeRow} {c n : ℕ} → Useful ts c n → Inhabited ts n
 useful-alive (useful i h a) = i

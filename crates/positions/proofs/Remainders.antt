@@ -8,13 +8,13 @@ use Rattle.types.specs.Belonging.{no_more}
 use Rattle.types.specs.Places.{left_behind, l_top, l_down, Inhabited, AllInhabited, a_end, a_more}
 use Rattle.types.specs.Tables.{Exactly}
 use Rattle.types.proofs.Contexts.{low}
-use Rattle.positions.specs.Built.{flag}
+use Rattle.positions.specs.Below.{flag}
 use Rattle.positions.specs.Life.{gift, GivenDown, left_gift, Alive, LiveBelow}
 
-first-in : {ts : List TypeRow} {r : ℕ} {k : List ℕ} → AllInhabited ts (r ∷ k) → Inhabited ts r
+pub first-in : {ts : List TypeRow} {r : ℕ} {k : List ℕ} → AllInhabited ts (r ∷ k) → Inhabited ts r
 first-in (a_more i a) = i
 
-rest_in : {ts : List TypeRow} {r : ℕ} {k : List ℕ} → AllInhabited ts (r ∷ k) → AllInhabited ts k
+pub rest_in : {ts : List TypeRow} {r : ℕ} {k : List ℕ} → AllInhabited ts (r ∷ k) → AllInhabited ts k
 rest_in (a_more i a) = a
 
 module _ {ts : List TypeRow} (law : Lawful ts) (v : List Bool) (right : Alive ts v) where

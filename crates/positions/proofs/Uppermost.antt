@@ -22,7 +22,7 @@ same-gift (Choice a b) x p = refl
 same-gift (Repetition a) x p = refl
 
 -- a row below n owns p, or none does
-owner : (ts : List TypeRow) (p n : ℕ) → ((s : ℕ) × ((s < n) × (owns (row ts s) p ≡ true))) ⊎ ((s : ℕ) → s < n → owns (row ts s) p ≡ false)
+pub owner : (ts : List TypeRow) (p n : ℕ) → ((s : ℕ) × ((s < n) × (owns (row ts s) p ≡ true))) ⊎ ((s : ℕ) → s < n → owns (row ts s) p ≡ false)
 owner ts p zero = inr (λ s l. absurd (omega arith))
 owner ts p (suc n) = elim (owner ts p n) [
   | inl h ↦ (let l = h.1.0 in inl (h.0, (omega arith, h.1.1)))
@@ -32,14 +32,15 @@ owner ts p (suc n) = elim (owner ts p n) [
   ]
 ]
 
+-- what no row of the table owns is owned nowhere
+pub alone : (ts : List TypeRow) (r : ℕ) → ((s : ℕ) → s < length ts → owns (row ts s) r ≡ false) → (s : ℕ) → owns (row ts s) r ≡ false
+alone ts r f s = elim (cases_lt s (length ts)) [ inl l ↦ f s l | inr l ↦ ap (λ w. owns w r) (get_or_past ts s EmptyChoice l) ]
+
 pub record Topped (ts : List TypeRow) (top r : ℕ) : Type 0 where
   pub root : Root ts top
   pub within : Within ts top r
 
 module _ {ts : List TypeRow} (law : Lawful ts) (tops : List ℕ) (done : GivenDown ts (length ts) 0 (λ r. r) (λ w x. x) tops 0) where
-  alone : (r : ℕ) → ((s : ℕ) → s < length ts → owns (row ts s) r ≡ false) → (s : ℕ) → owns (row ts s) r ≡ false
-  alone r f s = elim (cases_lt s (length ts)) [ inl l ↦ f s l | inr l ↦ ap (λ w. owns w r) (get_or_past ts s EmptyChoice l) ]
-
   -- so many rows are above r, at most
   up : (n r : ℕ) → length ts ≤ r + n → r < length ts → Topped ts (get_or tops r 0) r
   up zero r h l = absurd (omega arith)
@@ -53,7 +54,7 @@ module _ {ts : List TypeRow} (law : Lawful ts) (tops : List ℕ) (done : GivenDo
     | inr f ↦ (
         let few = law.few in
         let e : get_or tops r 0 ≡ r = done.starts r (omega arith) (λ s q. f s) in
-        subst (λ t. Topped ts t r) (sym e) (record { root = record { there = l; unowned = alone r f }; within = itself refl }))
+        subst (λ t. Topped ts t r) (sym e) (record { root = record { there = l; unowned = alone ts r f }; within = itself refl }))
   ]
 
   pub topped : (r : ℕ) → r < length ts → Topped ts (get_or tops r 0) r

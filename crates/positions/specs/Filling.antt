@@ -1,11 +1,12 @@
 -- One step of filling the tables of items, and what a walk over next items finds.
-use Rattle.std.specs.Prelude.{◌≡◌, ℕ, ◌+◌, ◌%◌, ◌<◌, ◌≤◌, Bool, true, false, ◌&&◌, ◌||◌, ◌≢◌, List, length, ◌==◌, slice_index}
+use Rattle.std.specs.Prelude.{◌≡◌, ℕ, ◌+◌, ◌<◌, Bool, true, false, ◌&&◌, ◌||◌, ◌≢◌, List, length, ◌==◌, slice_index}
+use Rattle.std.specs.List.{All}
 use Rattle.rows.specs.declared.type_row.TypeRow.{TypeRow}
 use Rattle.rows.specs.declared.type_row.TypeRow.TheVariants.{EmptyChoice, EmptySequence, Integer, String, Boolean, Element, AnyElement, Sequence, Choice, Repetition}
-use Rattle.bits.specs.Bits.{bit}
+use Rattle.bits.specs.Bits.{related}
 use Rattle.types.specs.Parts.{row}
 use Rattle.types.specs.Determinism.{overlaps}
-use Rattle.positions.specs.Built.{flag, related}
+use Rattle.positions.specs.Below.{flag}
 
 -- the row may be nothing, its parts being as the flags say
 abbrev pub null_by : List Bool → TypeRow → Bool
@@ -69,9 +70,9 @@ pub record Followed (old new : List ℕ) (more : ℕ → ℕ → Bool) : Type 0 
   pub firsts : (r n : ℕ) → r < 512 → n < 512 → related new r n ≡ related old r n
   pub follows : (x n : ℕ) → x < 512 → n < 512 → related new (512 + x) n ≡ (related old (512 + x) n || more x n)
 
--- no item among the bits from one place on, below another, overlaps the row
-abbrev pub Alone : List TypeRow → List ℕ → TypeRow → ℕ → ℕ → Type 0
-Alone ts ws w from end = (k : ℕ) → from ≤ k → k < end → bit ws k ≡ true → overlaps w (row ts (k % 512)) ≡ false
+-- the item m overlaps none of these but itself
+abbrev pub Alone : List TypeRow → ℕ → List ℕ → Type 0
+Alone ts m ns = All (λ n. overlaps (row ts m) (row ts n) ≡ true → n ≡ m) ns
 
 -- no two different items of a row of the table overlap
 abbrev pub Clear : List TypeRow → List ℕ → ℕ → Type 0

@@ -1,5 +1,6 @@
+pub mod Below
+pub mod Tables
 pub mod Built
 pub mod Filling
 pub mod Life
 pub mod Right
-pub mod Finding

@@ -6,7 +6,7 @@ use Rattle.rows.specs.TypeRows.{owns}
 use Rattle.types.specs.Parts.{row}
 use Rattle.types.specs.Places.{Left, Inhabited, AllInhabited}
 use Rattle.types.specs.Tables.{Exactly}
-use Rattle.positions.specs.Built.{flag, FreeBelow}
+use Rattle.positions.specs.Below.{flag, FreeBelow}
 
 -- the left part of a sequence is given x, every other part of the row y
 abbrev pub given : {A : Type 0} → TypeRow → A → A → List A → List A

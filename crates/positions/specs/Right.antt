@@ -3,7 +3,8 @@ use Rattle.std.specs.Prelude.{◌≡◌, ℕ, ◌+◌, ◌<◌, ◌≤◌, Bool,
 use Rattle.rows.specs.declared.type_row.TypeRow.{TypeRow}
 use Rattle.types.specs.Determinism.{Nullable, First, Last}
 use Rattle.types.specs.Tables.{Exactly}
-use Rattle.positions.specs.Built.{flag, related, MeetsBelow}
+use Rattle.bits.specs.Bits.{related}
+use Rattle.positions.specs.Below.{flag, MeetsBelow}
 
 -- the flags are of the rows that may be nothing
 abbrev pub Nulls : List TypeRow → List Bool → Type 0

@@ -1,98 +1,68 @@
-ghost use Rattle.std.specs.Prelude.{◌≡◌, ◌+◌, ◌<◌, ◌≤◌, length};
-ghost use Rattle.types.specs.Parts.{row, Root};
+ghost use Rattle.std.specs.Prelude.{◌≡◌, ◌+◌, ◌<◌, length, slice_index};
+ghost use Rattle.bits.specs.Items.{items_left};
+ghost use Rattle.types.specs.Parts.{Root};
 ghost use Rattle.types.specs.Determinism.{Deterministic};
-ghost use Rattle.types.specs.Tables.{Exactly, Lowest};
-ghost use Rattle.positions.specs.Built.{Built, types_of};
+ghost use Rattle.types.specs.Tables.{rows_of, Exactly, Lowest};
+ghost use Rattle.positions.specs.Built.{types_of, top};
 ghost use Rattle.positions.specs.Filling.{Alone, Clear, ClearItems};
 
 use crate::tables::Positions;
-use rows::TypeRow;
-use types::overlap;
+use bits::{Items, Relation};
+use types::{TypeRows, overlap};
 
-/// A row; past the end it is the empty choice.
-fn row_at(rows: &[TypeRow], place: usize) -> TypeRow
-    ensures { result ≡ row rows.now place }
+/// Whether an item overlaps none of these but itself.
+fn stands_alone(types: &TypeRows, item: u32, mut others: Items<'_>) -> bool
+    ensures { Exactly result (Alone (rows_of types.now) item (items_left others.entry)) }
 {
-    if place < rows.len() {
-        rows[place]
-    } else {
-        TypeRow::EmptyChoice
-    }
+    let row = types.row(item as usize);
+    others.all(|other| other == item || !overlap(row, types.row(other as usize)))
 }
 
-/// Whether none of the items from one place on, below another, overlaps an item.
-fn stands_alone(rows: &[TypeRow], words: &[u64], item: TypeRow, from: usize, end: usize) -> bool
-    ensures { Exactly result (Alone rows.now words.now item from «end») }
+/// Whether no two different items that may come next at a place overlap.
+fn is_clear(types: &TypeRows, next: &Relation<8192>, place: u32) -> bool
+    ensures { Exactly result (Clear (rows_of types.now) next.now.words place) }
 {
-    let mut at = bits::next(words, from, end);
-    while at < end {
-        if overlap(item, row_at(rows, at % 512)) {
-            return false;
-        }
-        at = bits::next(words, at + 1, end);
-    }
-    true
-}
-
-/// Whether no two different items of a row of the table overlap.
-fn is_clear(rows: &[TypeRow], words: &[u64], place: usize) -> bool
-    requires { place < 1024 }
-    ensures { Exactly result (Clear rows.now words.now place) }
-{
-    let end = place * 512 + 512;
-    let mut at = bits::next(words, place * 512, end);
-    while at < end {
-        if !stands_alone(rows, words, row_at(rows, at % 512), at + 1, end) {
-            return false;
-        }
-        at = bits::next(words, at + 1, end);
-    }
-    true
+    next.items(place).all(|item| stands_alone(types, item, next.items_from(place, item)))
 }
 
 /// Whether no two different items that follow an item of the root overlap.
-fn items_clear(rows: &[TypeRow], tops: &[u32], words: &[u64], root: u32) -> bool
-    requires few { length rows.now ≤ 512 }
-    requires long { length tops.now ≡ 512 }
-    ensures { Exactly result (ClearItems rows.now tops.now words.now root) }
+fn items_clear(types: &TypeRows, tops: &[u32], next: &Relation<8192>, root: u32) -> bool
+    requires { length tops.now ≡ 512 }
+    ensures { Exactly result (ClearItems (rows_of types.now) tops.now next.now.words root) }
 {
-    for place in 0..rows.len() {
-        if tops[place] == root && !is_clear(rows, words, 512 + place) {
-            return false;
-        }
-    }
-    true
+    tops[..types.count as usize].iter().enumerate().all(|(item, top)| *top != root
+        || is_clear(types, next, 512 + item as u32))
 }
 
 impl Positions {
-    /// The rows of the types.
-    pub(crate) fn rows(&self) -> &[TypeRow]
-        ensures { result.now ≡ types_of self.now }
+    /// The root that a row is within; past the end of the array 0.
+    // Those that ask give rows below 512, so an `Option` would hand them a case that never comes.
+    pub fn top(&self, row: u32) -> u32
+        ensures { result ≡ top self.now row }
     {
-        &self.types.rows[0..self.types.count as usize]
+        self.tops.get(row as usize).copied().unwrap_or(0)
     }
 
     /// Whether a root is one-way: no two different overlapping items may come next at one place of it.
     pub fn is_one_way(&self, root: u32) -> bool
-        ensures { Built self.now → Root (types_of self.now) root → Exactly result (Deterministic (types_of self.now) root) }
+        ensures { Root (types_of self.now) root → Exactly result (Deterministic (types_of self.now) root) }
     {
-        if root >= self.types.count {
-            return false;
-        }
-        let rows = self.rows();
-        is_clear(rows, &self.whole.next, root as usize)
-            && items_clear(rows, &self.tops, &self.whole.next, root)
+        root < self.types.count
+            && is_clear(&self.types, &self.whole.next, root)
+            && items_clear(&self.types, &self.tops, &self.whole.next, root)
     }
 
     /// The lowest root that is not one-way.
     pub fn first_ambiguous(&self) -> Option<u32>
-        ensures { Built self.now → Lowest result (types_of self.now) (λ n. Root (types_of self.now) n → Deterministic (types_of self.now) n) }
+        ensures { Lowest result (types_of self.now) (λ n. Root (types_of self.now) n → Deterministic (types_of self.now) n) }
     {
-        for root in 0..self.types.count {
-            if self.tops[root as usize] == root && !self.is_one_way(root) {
-                return Some(root);
-            }
-        }
-        None
+        (0..self.types.count).find(|row| !self.is_unambiguous(*row))
+    }
+
+    /// Whether a row is no root, or one that is one-way.
+    fn is_unambiguous(&self, row: u32) -> bool
+        ensures { row < length (types_of self.now) → Exactly result (Root (types_of self.now) row → Deterministic (types_of self.now) row) }
+    {
+        self.top(row) != row || self.is_one_way(row)
     }
 }

@@ -1,11 +1,13 @@
-ghost use Rattle.std.specs.Prelude.{◌≡◌, ℕ, ◌+◌, ◌*◌, ◌<◌, ◌≤◌, true, length};
+ghost use Rattle.std.specs.Prelude.{◌≡◌, ℕ, ◌+◌, ◌*◌, ◌<◌, ◌≤◌, true};
 ghost use Rattle.rows.specs.TypeRows.{owns};
 ghost use Rattle.positions.specs.Filling.{ends_by, turned, Grown};
 
-use crate::nullable::is_marked;
+use crate::flags::Flags;
+use bits::Relation;
 use rows::TypeRow;
 
 /// The row read from its end.
+// Only a sequence has an order, so the last items are the first items of turned rows, and one function adds both.
 pub(crate) fn turn(row: TypeRow) -> TypeRow
     ensures { result ≡ turned row }
 {
@@ -18,28 +20,33 @@ pub(crate) fn turn(row: TypeRow) -> TypeRow
     }
 }
 
-/// Adds the items that may come first in a row to its words, where those of its parts hold theirs.
-pub(crate) fn add_ends(words: &mut [u64], nullable: &[bool], place: usize, row: TypeRow)
+/// Adds the items that may come first in a row to its own, where those of its parts are there.
+pub(crate) fn add_ends<const WORDS: usize>(
+    items: &mut Relation<WORDS>,
+    nullable: &Flags,
+    place: u32,
+    row: TypeRow,
+)
     requires few { place < 512 }
-    requires space { place * 8 + 8 ≤ length words.old }
+    requires space { place * 8 + 8 ≤ WORDS }
     requires lower { (p : ℕ) → owns row p ≡ true → p < place }
-    ensures { Grown words.old words.new place (ends_by nullable.now words.old place row) }
+    ensures { Grown items.old.words items.new.words place (ends_by nullable.now.marks items.old.words place row) }
 {
     match row {
         TypeRow::EmptyChoice | TypeRow::EmptySequence => {}
         TypeRow::Sequence { first, second } => {
-            bits::unite(words, place, first as usize);
-            if is_marked(nullable, first) {
-                bits::unite(words, place, second as usize);
+            items.unite(place, first);
+            if nullable.has(first) {
+                items.unite(place, second);
             }
         }
         TypeRow::Choice { first, second } => {
-            bits::unite(words, place, first as usize);
-            bits::unite(words, place, second as usize);
+            items.unite(place, first);
+            items.unite(place, second);
         }
-        TypeRow::Repetition { part } => bits::unite(words, place, part as usize),
+        TypeRow::Repetition { part } => items.unite(place, part),
         _ => {
-            let _ = bits::insert(words, place * 512 + place);
+            let _ = items.insert(place, place);
         }
     }
 }

@@ -4,10 +4,11 @@ ghost use Rattle.positions.specs.Life.{given};
 use rows::TypeRow;
 
 /// Writes a value, if there is such a place.
-fn put<T: Copy>(table: &mut [T], place: u32, value: T)
+pub(crate) fn put<T: Copy>(table: &mut [T], place: u32, value: T)
     ensures { table.new ≡ slice_set table.old place value }
 {
     let at = place as usize;
+    // Written through `get_mut`, neither way out was proved by the search alone; this form is.
     if at < table.len() {
         table[at] = value;
     }

@@ -1,22 +1,20 @@
-ghost use Rattle.std.specs.Prelude.{◌≡◌, ℕ, ◌<◌, false, length};
-ghost use Rattle.bits.specs.Bits.{bit};
-ghost use Rattle.types.specs.Parts.{Lawful};
-ghost use Rattle.types.specs.Determinism.{Nullable, Last};
-ghost use Rattle.types.specs.Tables.{Exactly};
-ghost use Rattle.positions.specs.Built.{flag, related};
+ghost use Rattle.types.specs.Tables.{rows_of};
+ghost use Rattle.positions.specs.Right.{Nulls, Lasts};
 
 use crate::ends::{add_ends, turn};
-use rows::TypeRow;
+use crate::flags::Flags;
+use bits::Relation;
+use types::TypeRows;
 
-/// Fills in the last items of each row.
-pub(crate) fn fill_lasts(rows: &[TypeRow], nullable: &[bool], lasts: &mut [u64])
-    requires lawful { Lawful rows.now }
-    requires nulls { (r : ℕ) → Exactly (flag nullable.now r) (Nullable rows.now r) }
-    requires long { length lasts.old ≡ 4096 }
-    requires empty { (j : ℕ) → bit lasts.old j ≡ false }
-    ensures { (r n : ℕ) → r < 512 → n < 512 → Exactly (related lasts.new r n) (Last rows.now r n) }
+/// The last items of each row.
+pub(crate) fn last_items(types: &TypeRows, nullable: &Flags) -> Relation<4096>
+    requires { Nulls (rows_of types.now) nullable.now.marks }
+    ensures { Lasts (rows_of types.now) result.words }
 {
-    for place in 0..rows.len() {
-        add_ends(lasts, nullable, place, turn(rows[place]));
+    let mut lasts = Relation::new();
+    let rows = types.as_slice();
+    for (place, row) in rows.iter().enumerate() {
+        add_ends(&mut lasts, nullable, place as u32, turn(*row));
     }
+    lasts
 }

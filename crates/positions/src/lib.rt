@@ -4,6 +4,7 @@ mod alive;
 mod build;
 mod determinism;
 mod ends;
+mod flags;
 mod giving;
 mod lasts;
 mod live;
@@ -13,4 +14,6 @@ mod nullable;
 mod tables;
 mod tops;
 
-pub use tables::{Moves, Positions};
+pub use flags::Flags;
+pub use moves::Moves;
+pub use tables::Positions;

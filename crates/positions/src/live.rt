@@ -1,34 +1,34 @@
-ghost use Rattle.std.specs.Prelude.{◌≡◌, ℕ, ◌<◌, ◌≤◌, true, length};
-ghost use Rattle.types.specs.Parts.{Lawful};
-ghost use Rattle.positions.specs.Built.{flag};
+ghost use Rattle.std.specs.Prelude.{◌≡◌, ◌≤◌, length};
+ghost use Rattle.types.specs.Tables.{rows_of};
 ghost use Rattle.positions.specs.Life.{left_gift, Alive, LiveBelow};
 
-use crate::giving::give;
-use crate::nullable::is_marked;
+use crate::flags::Flags;
 use rows::TypeRow;
+use types::TypeRows;
 
 /// What a row with this flag gives to its left part: in a sequence, what stands behind that part must have a forest too.
-fn for_left(row: TypeRow, own: bool, alive: &[bool]) -> bool
-    ensures { result ≡ left_gift alive.now row own }
+fn for_left(row: TypeRow, own: bool, alive: &Flags) -> bool
+    ensures { result ≡ left_gift alive.now.marks row own }
 {
     match row {
-        TypeRow::Sequence { second, .. } => own && is_marked(alive, second),
+        TypeRow::Sequence { second, .. } => own && alive.has(second),
         _ => own,
     }
 }
 
-/// Marks the rows behind which all that is left has a forest, within the rows that nothing below `end` owns.
+/// The rows behind which all that is left has a forest, within the rows that nothing below `end` owns.
 /// Rows from the highest down give their parts what they have.
-pub(crate) fn fill_live(rows: &[TypeRow], alive: &[bool], end: usize, live: &mut [bool])
-    requires lawful { Lawful rows.now }
-    requires within { «end» ≤ length rows.now }
-    requires long { length live.old ≡ 512 }
-    requires full { (r : ℕ) → r < 512 → flag live.old r ≡ true }
-    ensures { Alive rows.now alive.now → LiveBelow rows.now «end» live.new }
+pub(crate) fn live_rows(types: &TypeRows, alive: &Flags, end: u32) -> Flags
+    requires within { «end» ≤ length (rows_of types.now) }
+    requires alive { Alive (rows_of types.now) alive.now.marks }
+    ensures { LiveBelow (rows_of types.now) «end» result.marks }
 {
-    for place in (0..end).rev() {
-        let own = live[place];
-        let left = for_left(rows[place], own, alive);
-        give(rows[place], left, own, live);
+    let mut live = Flags::all(true);
+    let rows = &types.as_slice()[..end as usize];
+    for (place, row) in rows.iter().enumerate().rev() {
+        let own = live.has(place as u32);
+        let left = for_left(*row, own, alive);
+        live.give(*row, left, own);
     }
+    live
 }

@@ -1,47 +1,45 @@
-ghost use Rattle.std.specs.Prelude.{◌≡◌, ℕ, ◌+◌, ◌<◌, ◌≤◌, true, false, ◌&&◌, length};
+ghost use Rattle.std.specs.Prelude.{◌≡◌, ℕ, ◌<◌, ◌≤◌, true, ◌&&◌, length};
 ghost use Rattle.rows.specs.TypeRows.{owns};
-ghost use Rattle.bits.specs.Bits.{bit};
-ghost use Rattle.types.specs.Parts.{Lawful};
-ghost use Rattle.positions.specs.Built.{related};
+ghost use Rattle.bits.specs.Bits.{related};
+ghost use Rattle.types.specs.Tables.{rows_of};
 ghost use Rattle.positions.specs.Filling.{meets_by, Followed};
 ghost use Rattle.positions.specs.Right.{Nulls, Firsts, Lasts, Unfollowed, FollowsBelow};
 
 use crate::ends::add_ends;
+use crate::flags::Flags;
+use bits::Relation;
 use rows::TypeRow;
+use types::TypeRows;
 
-/// Fills in the first items of each row.
-pub(crate) fn fill_firsts(rows: &[TypeRow], nullable: &[bool], next: &mut [u64])
-    requires lawful { Lawful rows.now }
-    requires long { length next.old ≡ 8192 }
-    requires empty { (j : ℕ) → bit next.old j ≡ false }
-    ensures firsts { Nulls rows.now nullable.now → Firsts rows.now next.new }
-    ensures unfollowed { Nulls rows.now nullable.now → Unfollowed next.new }
+/// The first items of each row. No item follows another yet.
+pub(crate) fn first_items(types: &TypeRows, nullable: &Flags) -> Relation<8192>
+    requires { Nulls (rows_of types.now) nullable.now.marks }
+    ensures firsts { Firsts (rows_of types.now) result.words }
+    ensures unfollowed { Unfollowed result.words }
 {
-    for place in 0..rows.len() {
-        add_ends(next, nullable, place, rows[place]);
+    let mut next = Relation::new();
+    let rows = types.as_slice();
+    for (place, row) in rows.iter().enumerate() {
+        add_ends(&mut next, nullable, place as u32, *row);
     }
+    next
 }
 
 /// Lets the firsts of `right` follow each last of `left`.
-fn add_follows(lasts: &[u64], next: &mut [u64], left: u32, right: u32)
+fn add_follows(lasts: &Relation<4096>, next: &mut Relation<8192>, left: u32, right: u32)
     requires left { left < 512 }
     requires right { right < 512 }
-    requires long { length next.old ≡ 8192 }
-    ensures { Followed next.old next.new (λ x n. related lasts.now left x && related next.old right n) }
+    ensures { Followed next.old.words next.new.words (λ x n. related lasts.now.words left x && related next.old.words right n) }
 {
-    let end = left as usize * 512 + 512;
-    let mut at = bits::next(lasts, left as usize * 512, end);
-    while at < end {
-        bits::unite(next, 512 + at % 512, right as usize);
-        at = bits::next(lasts, at + 1, end);
+    for item in lasts.items(left) {
+        next.unite(512 + item, right);
     }
 }
 
 /// Adds the items that meet at a row.
-fn add_meets(row: TypeRow, lasts: &[u64], next: &mut [u64])
-    requires low { (p : ℕ) → owns row p ≡ true → p < 512 }
-    requires long { length next.old ≡ 8192 }
-    ensures { Followed next.old next.new (meets_by lasts.now next.old row) }
+fn add_meets(row: TypeRow, lasts: &Relation<4096>, next: &mut Relation<8192>)
+    requires { (p : ℕ) → owns row p ≡ true → p < 512 }
+    ensures { Followed next.old.words next.new.words (meets_by lasts.now.words next.old.words row) }
 {
     match row {
         TypeRow::Sequence { first, second } => add_follows(lasts, next, first, second),
@@ -50,15 +48,22 @@ fn add_meets(row: TypeRow, lasts: &[u64], next: &mut [u64])
     }
 }
 
-/// Fills in the items that follow each item by meeting it at a row below `end`.
-pub(crate) fn fill_follows(rows: &[TypeRow], lasts: &[u64], end: usize, next: &mut [u64])
-    requires lawful { Lawful rows.now }
-    requires within { «end» ≤ length rows.now }
-    requires long { length next.old ≡ 8192 }
-    ensures firsts { Lasts rows.now lasts.now → Firsts rows.now next.old → Unfollowed next.old → Firsts rows.now next.new }
-    ensures follows { Lasts rows.now lasts.now → Firsts rows.now next.old → Unfollowed next.old → FollowsBelow rows.now «end» next.new }
+/// Adds the items that follow each item by meeting it at a row below `end`.
+pub(crate) fn add_all_meets(
+    types: &TypeRows,
+    lasts: &Relation<4096>,
+    end: u32,
+    next: &mut Relation<8192>,
+)
+    requires within { «end» ≤ length (rows_of types.now) }
+    requires lasts { Lasts (rows_of types.now) lasts.now.words }
+    requires firsts { Firsts (rows_of types.now) next.old.words }
+    requires unfollowed { Unfollowed next.old.words }
+    ensures firsts { Firsts (rows_of types.now) next.new.words }
+    ensures follows { FollowsBelow (rows_of types.now) «end» next.new.words }
 {
-    for place in 0..end {
-        add_meets(rows[place], lasts, next);
+    let rows = types.as_slice();
+    for row in &rows[..end as usize] {
+        add_meets(*row, lasts, next);
     }
 }

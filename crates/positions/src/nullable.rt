@@ -1,43 +1,33 @@
-ghost use Rattle.std.specs.Prelude.{◌≡◌, ℕ, false, length};
-ghost use Rattle.types.specs.Parts.{Lawful};
-ghost use Rattle.types.specs.Determinism.{Nullable};
-ghost use Rattle.types.specs.Tables.{Exactly};
-ghost use Rattle.positions.specs.Built.{flag};
+ghost use Rattle.std.specs.Prelude.{◌≡◌};
+ghost use Rattle.types.specs.Tables.{rows_of};
 ghost use Rattle.positions.specs.Filling.{null_by};
+ghost use Rattle.positions.specs.Right.{Nulls};
 
+use crate::flags::Flags;
 use rows::TypeRow;
-
-/// Whether a row is marked; past the end none is.
-pub(crate) fn is_marked(flags: &[bool], place: u32) -> bool
-    ensures { result ≡ flag flags.now place }
-{
-    let place = place as usize;
-    place < flags.len() && flags[place]
-}
+use types::TypeRows;
 
 /// Whether a row may be nothing, its parts being as marked.
-fn may_be_nothing(row: TypeRow, nullable: &[bool]) -> bool
-    ensures { result ≡ null_by nullable.now row }
+fn may_be_nothing(row: TypeRow, nullable: &Flags) -> bool
+    ensures { result ≡ null_by nullable.now.marks row }
 {
     match row {
-        TypeRow::EmptySequence => true,
-        TypeRow::Sequence { first, second } => is_marked(nullable, first)
-            && is_marked(nullable, second),
-        TypeRow::Choice { first, second } => is_marked(nullable, first)
-            || is_marked(nullable, second),
-        TypeRow::Repetition { .. } => true,
+        TypeRow::EmptySequence | TypeRow::Repetition { .. } => true,
+        TypeRow::Sequence { first, second } => nullable.has(first) && nullable.has(second),
+        TypeRow::Choice { first, second } => nullable.has(first) || nullable.has(second),
         _ => false,
     }
 }
 
-/// Marks the rows that may be nothing.
-pub(crate) fn fill_nullable(rows: &[TypeRow], nullable: &mut [bool])
-    requires lawful { Lawful rows.now }
-    requires long { length nullable.old ≡ 512 }
-    requires empty { (r : ℕ) → flag nullable.old r ≡ false }
-    ensures { (r : ℕ) → Exactly (flag nullable.new r) (Nullable rows.now r) }
+/// The rows that may be nothing.
+pub(crate) fn nullable_rows(types: &TypeRows) -> Flags
+    ensures { Nulls (rows_of types.now) result.marks }
 {
-    for place in 0..rows.len() {
-        nullable[place] = may_be_nothing(rows[place], nullable);
+    let mut nullable = Flags::all(false);
+    let rows = types.as_slice();
+    for (place, row) in rows.iter().enumerate() {
+        let marked = may_be_nothing(*row, &nullable);
+        nullable.set(place as u32, marked);
     }
+    nullable
 }

@@ -1,29 +1,20 @@
 ghost use Rattle.std.specs.Prelude.{◌≡◌, ℕ, ◌<◌, length, slice_index};
-ghost use Rattle.types.specs.Parts.{Lawful, Root, Within};
+ghost use Rattle.types.specs.Parts.{Root, Within};
+ghost use Rattle.types.specs.Tables.{rows_of};
 
 use crate::giving::give;
-use rows::TypeRow;
+use std::array;
+use types::TypeRows;
 
-/// Makes each row its own top.
-fn start_tops(tops: &mut [u32])
-    requires { length tops.old ≡ 512 }
-    ensures { (r : ℕ) → r < 512 → slice_index tops.new r ≡ r }
+/// The root that each row is within: rows from the highest down give their parts their own top.
+pub(crate) fn tops_of(types: &TypeRows) -> [u32; 512]
+    ensures roots { (r : ℕ) → r < length (rows_of types.now) → Root (rows_of types.now) (slice_index result r) }
+    ensures within { (r : ℕ) → r < length (rows_of types.now) → Within (rows_of types.now) (slice_index result r) r }
 {
-    for place in 0..512 {
-        tops[place] = place as u32;
-    }
-}
-
-/// Fills in the root that each row is within: rows from the highest down give their parts their own top.
-pub(crate) fn fill_tops(rows: &[TypeRow], tops: &mut [u32])
-    requires lawful { Lawful rows.now }
-    requires long { length tops.old ≡ 512 }
-    ensures roots { (r : ℕ) → r < length rows.now → Root rows.now (slice_index tops.new r) }
-    ensures within { (r : ℕ) → r < length rows.now → Within rows.now (slice_index tops.new r) r }
-{
-    start_tops(tops);
-    for place in (0..rows.len()).rev() {
+    let mut tops = array::from_fn(|row| row as u32);
+    for (place, row) in types.as_slice().iter().enumerate().rev() {
         let top = tops[place];
-        give(rows[place], top, top, tops);
+        give(*row, top, top, &mut tops);
     }
+    tops
 }

@@ -1,6 +1,5 @@
-pub mod Numbers
-pub mod Placing
-pub mod Puts
+pub mod Adding
+pub mod Lists
 pub mod Readings
 pub mod Sizes
-pub mod Steps
+pub mod Placing

@@ -1,17 +1,15 @@
--- From the bytes that were kept to the outcome of printing.
-use Rattle.std.proofs.Common.{◌≡◌, ℕ, ◌+◌, ◌<◌, ◌≤◌, true, false, ltb, List, [], ◌∷◌, ◌++◌, map, length, get_or, take, drop, Ok, Err, sym, refl, ap, ◌∙◌, subst, arith}
-use Rattle.std.proofs.lemmas.List.{length-take, take_all}
+-- From the text that was written to the outcome of printing.
+use Rattle.std.proofs.Common.{◌≡◌, ℕ, ◌<◌, ◌≤◌, true, false, ltb, List, [], ◌∷◌, ◌++◌, map, length, get_or, drop, vec_items, Ok, Err, Result, sym, refl, ap, ◌∙◌, subst, arith}
 use Rattle.std.proofs.lemmas.Bool.{and_parts, cond-true, cond-false, ltb-true, lt-ltb, le-ltb}
-use Rattle.forest.specs.Faults.{faulted}
 use Rattle.forest.specs.Forests.{Forest, Item, scalar, element, before, depth, forest}
 use Rattle.forest.specs.Stores.{all_below, nothing, picked}
 use Rattle.forest.specs.declared.failure.Failure.{Failure}
-use Rattle.forest.specs.declared.failure.Failure.TheVariants.{Refused}
-use Rattle.forest.specs.declared.fault.Reason.TheVariants.{BufferShort}
+use Rattle.forest.specs.declared.failure.Failure.TheVariants.{Refused, OutOfMemory}
 use Rattle.printing.specs.Items.{item_printed, printed_at}
-use Rattle.printing.specs.Outcomes.{Prints, layer, placed, printing, refused}
-use Rattle.printing.specs.Printed.{joined, printed, texts}
-use Rattle.printing.specs.Writing.{Page, put}
+use Rattle.printing.specs.Outcomes.{Prints, placed, printing}
+use Rattle.printing.specs.Printed.{joined, texts}
+use Rattle.printing.specs.Writing.{Adds}
+use Rattle.printing.specs.declared.text.Text.{Text}
 use Rattle.printing.proofs.Readings.{printed-there}
 
 texts-before : (i : Item) (f : Forest) → texts (before i f) ≡ item_printed i ∷ texts f
@@ -25,30 +23,27 @@ texts-picked ts (h ∷ hs) there =
     let here = printed-there ts h (ltb-true h (length ts) both.0) in
     ap (λ x. x ∷ map (printed_at ts) hs) here ∙ ap (λ xs. item_printed (get_or ts h nothing) ∷ xs) (texts-picked ts hs both.1) ∙ sym (texts-before (get_or ts h nothing) (forest (picked ts hs)))
 
--- what is written of a forest on an empty page that has room for n + 1 bytes
-pub kept : (ts : List Item) (hs : List ℕ) (n : ℕ) (p q : Page) (bytes : List ℕ) → true ≡ all_below (length ts) hs → p.written ≡ [] → p.room ≡ n + 1 → q ≡ put p (joined (map (printed_at ts) hs)) → bytes ≡ q.written → bytes ≡ take (n + 1) (printed (forest (picked ts hs)))
-kept ts hs n p q bytes there none room wrote read =
-    let text = joined (map (printed_at ts) hs) in
-    let all = ap (λ x. x.written) wrote ∙ ap (λ xs. xs ++ take p.room text) none ∙ ap (λ k. take k text) room in
-    read ∙ all ∙ ap (λ xs. take (n + 1) (joined xs)) (texts-picked ts hs (sym there))
-
 -- where all handles are there and no tree is nested too deep, the outcome goes by the text's length
-placed-is : (ts : List Item) (hs buffer : List ℕ) → true ≡ all_below (length ts) hs → false ≡ ltb 64 (depth (forest (picked ts hs))) → placed (printed (forest (picked ts hs))) buffer ≡ printing ts hs buffer
-placed-is ts hs buffer there flat = sym (cond-true (all_below (length ts) hs) _ _ (sym there) ∙ cond-false (ltb 64 (depth (forest (picked ts hs)))) _ _ (sym flat))
+module _ (ts : List Item) (hs buffer : List ℕ) (there : true ≡ all_below (length ts) hs) (flat : false ≡ ltb 64 (depth (forest (picked ts hs)))) where
+  placed-is : placed (joined (map (printed_at ts) hs)) buffer ≡ printing ts hs buffer
+  placed-is =
+      let f = forest (picked ts hs) in
+      ap (λ xs. placed (joined xs) buffer) (texts-picked ts hs (sym there)) ∙ sym (cond-true (all_below (length ts) hs) _ _ (sym there) ∙ cond-false (ltb 64 (depth f)) _ _ (sym flat))
 
-placed-short : (text bytes buffer : List ℕ) → bytes ≡ take (length buffer + 1) text → length buffer < length bytes → refused BufferShort buffer ≡ placed text buffer
-placed-short text bytes buffer e long = sym (cond-true (ltb (length buffer) (length text)) _ _ (lt-ltb (length buffer) (length text) (omega (arith, ap length e, length-take (length buffer + 1) text))))
+  short_by : (X : Type 0) (e : Failure) (t v : Text) → vec_items t.bytes ≡ [] → t.limit ≡ length buffer → Adds {X = X} (Err e) t v (joined (map (printed_at ts) hs)) → Prints ts hs buffer (Err e) buffer
+  short_by X (Refused f) t v empty limit a =
+      let text = joined (map (printed_at ts) hs) in
+      let long : length buffer < length text = omega (arith, a.1, ap (λ xs. length (xs ++ text)) empty) in
+      ap (λ x. record { answer = Err (Refused x); buffer = buffer }) a.0 ∙ sym (cond-true (ltb (length buffer) (length text)) _ _ (lt-ltb (length buffer) (length text) long)) ∙ placed-is
+  short_by X OutOfMemory t v empty limit a = refl
 
-placed-fits : (text bytes buffer : List ℕ) → bytes ≡ take (length buffer + 1) text → length bytes ≤ length buffer → record { answer = Ok (length bytes); buffer = bytes ++ drop (length bytes) buffer } ≡ placed text buffer
-placed-fits text bytes buffer e short =
-    let small : length text ≤ length buffer = omega (arith, ap length e, length-take (length buffer + 1) text) in
-    let same = e ∙ take_all (length buffer + 1) text (omega arith) in
-    ap (λ xs. record { answer = Ok (length xs); buffer = xs ++ drop (length xs) buffer }) same ∙ sym (cond-false (ltb (length buffer) (length text)) _ _ (le-ltb (length buffer) (length text) small))
+  pub prints_short : {X : Type 0} (p : Result X Failure) (r : Result ℕ Failure) (e : Failure) (t v : Text) → p ≡ Err e → r ≡ Err e → vec_items t.bytes ≡ [] → t.limit ≡ length buffer → Adds p t v (joined (map (printed_at ts) hs)) → Prints ts hs buffer r buffer
+  prints_short {X} p r e t v was failed empty limit a =
+      let refused = subst (λ x. Adds x t v (joined (map (printed_at ts) hs))) was a in
+      subst (λ x. Prints ts hs buffer x buffer) (sym failed) (short_by X e t v empty limit refused)
 
-pub prints_short : (ts : List Item) (hs buffer bytes : List ℕ) (f : Failure) → true ≡ all_below (length ts) hs → false ≡ ltb 64 (depth (forest (picked ts hs))) → bytes ≡ take (length buffer + 1) (printed (forest (picked ts hs))) → length buffer < length bytes → f ≡ Refused (faulted BufferShort layer 0) → Prints ts hs buffer (Err f) buffer
-prints_short ts hs buffer bytes f there flat e long is = subst (λ (x : Failure). Prints ts hs buffer (Err x) buffer) (sym is) (placed-short (printed (forest (picked ts hs))) bytes buffer e long ∙ placed-is ts hs buffer there flat)
-
-pub prints_fits : (ts : List Item) (hs buffer bytes front : List ℕ) (n : ℕ) → true ≡ all_below (length ts) hs → false ≡ ltb 64 (depth (forest (picked ts hs))) → bytes ≡ take (length buffer + 1) (printed (forest (picked ts hs))) → length bytes ≤ length buffer → front ≡ bytes → n ≡ length bytes → Prints ts hs buffer (Ok (length bytes)) (front ++ drop n buffer)
-prints_fits ts hs buffer bytes front n there flat e short copied long =
-    let after = ap (λ xs. xs ++ drop n buffer) copied ∙ ap (λ k. bytes ++ drop k buffer) long in
-    ap (λ xs. record { answer = Ok (length bytes); buffer = xs }) after ∙ placed-fits (printed (forest (picked ts hs))) bytes buffer e short ∙ placed-is ts hs buffer there flat
+  pub prints_fits : (text front : List ℕ) (n : ℕ) → text ≡ joined (map (printed_at ts) hs) → length text ≤ length buffer → front ≡ text → n ≡ length text → Prints ts hs buffer (Ok n) (front ++ drop n buffer)
+  prints_fits text front n written short copied long =
+      let after = ap (λ xs. record { answer = Ok n; buffer = xs ++ drop n buffer }) copied ∙ ap (λ k. record { answer = Ok k; buffer = text ++ drop k buffer }) long in
+      let fits = sym (cond-false (ltb (length buffer) (length text)) _ _ (le-ltb (length buffer) (length text) short)) in
+      after ∙ fits ∙ ap (λ xs. placed xs buffer) written ∙ placed-is

@@ -1,19 +1,14 @@
--- Writing text as far as there is room for it.
-use Rattle.std.specs.Prelude.{◌≡◌, ℕ, ◌-◌, List, ◌++◌, length, take, vec_items, Result, OnOk}
+-- Writing a text that may have so many bytes.
+use Rattle.std.specs.Prelude.{◌≡◌, List, ℕ, ◌<◌, ◌++◌, length, vec_items, Ok, Err, Result}
+use Rattle.forest.specs.Faults.{faulted}
+use Rattle.forest.specs.declared.failure.Failure.{Failure}
+use Rattle.forest.specs.declared.failure.Failure.TheVariants.{Refused, OutOfMemory}
+use Rattle.forest.specs.declared.fault.Reason.TheVariants.{BufferShort}
+use Rattle.printing.specs.Outcomes.{layer}
 use Rattle.printing.specs.declared.text.Text.{Text}
 
--- what is written so far, and room for how many bytes more
-pub record Page : Type 0 where
-  pub written : List ℕ
-  pub room : ℕ
-
-abbrev pub page : Text → Page
-page t = record { written = vec_items t.bytes; room = t.room }
-
--- more is written, as far as there is room for it
-abbrev pub put : Page → List ℕ → Page
-put p more = record { written = p.written ++ take p.room more; room = p.room - length more }
-
--- a call that memory suffices for writes this text
-abbrev pub Writes : {X Y : Type 0} → Result X Y → Text → Text → List ℕ → Type 0
-Writes r before after text = OnOk r (page after ≡ put (page before) text)
+-- A call adds more to a text; or it refuses since that would be too long; or memory is short.
+abbrev pub Adds : {X : Type 0} → Result X Failure → Text → Text → List ℕ → Type 0
+Adds (Ok x) before after more = (vec_items after.bytes ≡ vec_items before.bytes ++ more) × (after.limit ≡ before.limit)
+Adds (Err (Refused f)) before after more = (f ≡ faulted BufferShort layer 0) × (before.limit < length (vec_items before.bytes ++ more))
+Adds (Err OutOfMemory) before after more = Unit {0}

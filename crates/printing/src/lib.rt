@@ -1,8 +1,9 @@
 #![tactic(auto)]
 
-mod items;
 mod output;
-mod scalars;
+mod printer;
+mod refusal;
 mod text;
 
-pub use output::{LAYER, print};
+pub use output::print;
+pub use refusal::LAYER;

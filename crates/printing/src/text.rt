@@ -1,24 +1,31 @@
-ghost use Rattle.std.specs.Prelude.{◌≡◌, [], ◌∷◌, ◌==◌};
-ghost use Rattle.printing.specs.Writing.{Writes};
+ghost use Rattle.std.specs.Prelude.{◌≡◌, ◌<◌, ◌≤◌, [], ◌∷◌, vec_len};
+ghost use Rattle.printing.specs.Items.{separator};
+ghost use Rattle.printing.specs.Printed.{escaped, hex_digit, plain, truth};
 
-use std::alloc::{AllocError, Global};
+use crate::refusal::refusal;
+use forest::{Failure, Reason};
+use itoa::{Buffer, Integer};
+use std::alloc::Global;
 
-/// Text that is being written, with room for so many bytes more. What finds no room is left out.
+/// Text that is being written, of so many bytes at most.
 #[derive(Drop)]
-pub struct Text {
+pub(crate) struct Text {
     bytes: Vec<u8>,
-    room: usize,
+    limit: usize,
+    ghost fits: { vec_len bytes ≤ limit },
 }
 
 impl Text {
+    ghost use Rattle.printing.specs.Writing.{Adds};
+
     /// An empty text.
-    pub(crate) fn new(heap: Global, room: usize) -> Text
-        ensures written { result.bytes.items ≡ [] }
-        ensures room { result.room ≡ room }
+    pub(crate) fn new(alloc: Global, limit: usize) -> Text
+        ensures empty { result.bytes.items ≡ [] }
+        ensures limit { result.limit ≡ limit }
     {
         Text {
-            bytes: Vec::new(heap),
-            room,
+            bytes: Vec::new(alloc),
+            limit,
         }
     }
 
@@ -29,31 +36,74 @@ impl Text {
         self.bytes.as_slice()
     }
 
-    /// Whether there is no room left.
-    pub(crate) fn is_full(&self) -> bool
-        ensures { result ≡ (self.now.room == 0) }
+    /// Writes one byte.
+    pub(crate) fn push(&mut self, byte: u8) -> Result<(), Failure>
+        ensures { Adds result self.old self.new (byte ∷ []) }
     {
-        self.room == 0
+        if self.bytes.len() == self.limit {
+            return Err(refusal(Reason::BufferShort));
+        }
+        self.bytes.push(byte)?;
+        Ok(())
     }
 
-    /// Writes one byte.
-    pub(crate) fn push(&mut self, byte: u8) -> Result<(), AllocError>
-        ensures { Writes result self.old self.new (byte ∷ []) }
+    /// Writes bytes.
+    fn push_all(&mut self, more: &[u8]) -> Result<(), Failure>
+        ensures { Adds result self.old self.new more.now }
     {
-        if self.room > 0 {
-            self.bytes.push(byte)?;
-            self.room -= 1;
+        if more.len() > self.limit - self.bytes.len() {
+            return Err(refusal(Reason::BufferShort));
+        }
+        self.bytes.extend_from_slice(more)?;
+        Ok(())
+    }
+
+    /// Writes a number in decimal.
+    pub(crate) fn push_number<I: Integer>(&mut self, number: I) -> Result<(), Failure>
+        ensures { Adds result self.old self.new (I.text number) }
+    {
+        self.push_all(Buffer::new().format(number).as_bytes())
+    }
+
+    /// Writes `true` or `false`.
+    pub(crate) fn push_boolean(&mut self, value: bool) -> Result<(), Failure>
+        ensures { Adds result self.old self.new (truth value) }
+    {
+        self.push_all(if value { b"true" } else { b"false" })
+    }
+
+    /// Writes a byte of a String: as it is, or as a backslash and two hexadecimal digits.
+    pub(crate) fn push_escaped(&mut self, byte: u8) -> Result<(), Failure>
+        ensures { Adds result self.old self.new (escaped byte) }
+    {
+        if is_plain(byte) {
+            return self.push(byte);
+        }
+        self.push_all(&[b'\\', hex_digit(byte / 16), hex_digit(byte % 16)])
+    }
+
+    /// Writes what stands before the item at a place: a comma, unless it is the first.
+    pub(crate) fn push_separator(&mut self, place: usize) -> Result<(), Failure>
+        ensures { Adds result self.old self.new (separator place) }
+    {
+        if place > 0 {
+            self.push(b',')?;
         }
         Ok(())
     }
+}
 
-    /// Writes bytes, as many as there is room for.
-    pub(crate) fn push_all(&mut self, more: &[u8]) -> Result<(), AllocError>
-        ensures { Writes result self.old self.new more.now }
-    {
-        let taken = more.len().min(self.room);
-        self.bytes.extend_from_slice(&more[0..taken])?;
-        self.room -= taken;
-        Ok(())
-    }
+/// Whether a byte of a String is written as it is.
+fn is_plain(byte: u8) -> bool
+    ensures { result ≡ plain byte }
+{
+    matches!(byte, b' '..=b'~') && !matches!(byte, b'"' | b'\\')
+}
+
+/// The lower-case hexadecimal digit of a number below 16.
+fn hex_digit(digit: u8) -> u8
+    requires { digit < 16 }
+    ensures { result ≡ hex_digit digit }
+{
+    char::from_digit(u32::from(digit), 16).unwrap() as u8
 }

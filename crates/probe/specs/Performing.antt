@@ -1,22 +1,17 @@
 -- What a call on a store is answered, and what the store means after it.
-use Rattle.std.specs.Prelude.{◌≡◌, ℕ, List, [], ◌∷◌, length, take, replicate, Ok, Err, Result}
+use Rattle.std.specs.Prelude.{◌≡◌, ℕ, List, length, take, replicate, vec_items, Ok, Err, Result, Vec}
 use Rattle.forest.specs.declared.failure.Failure.{Failure}
 use Rattle.forest.specs.declared.failure.Failure.TheVariants.{Refused, OutOfMemory}
 use Rattle.forest.specs.declared.fault.Fault.{Fault}
 use Rattle.forest.specs.declared.fault.Reason.TheVariants.{BufferShort}
 use Rattle.forest.specs.Stores.{Meaning, make, asked_integer, asked_boolean, asked_string, asked_element}
 use Rattle.printing.specs.Outcomes.{Outcome, printing}
-use Rattle.answers.specs.Answers.{Said, done, text, refused, malformed, unsupported, measured}
+use Rattle.answers.specs.Answers.{handle_or_fault, Said, done, text, refused, malformed, unsupported, measured}
 use Rattle.script.specs.Calls.{StoreAsked, capture, table, tray, space, integer, boolean, string, element, print}
 
 -- the number of trees, then the three numbers of space
 abbrev pub measures : Meaning → List ℕ
 measures m = measured (length m.trees) m.space
-
--- a tree that was made is answered by its handle
-abbrev pub handle_or_fault : Result ℕ Fault → Said
-handle_or_fault (Ok h) = done (h ∷ [])
-handle_or_fault (Err f) = refused f
 
 abbrev pub making : Result ℕ Fault × Meaning → Said × Meaning
 making r = (handle_or_fault r.0, r.1)
@@ -26,6 +21,12 @@ abbrev pub text_or_fault : Result ℕ Failure → List ℕ → Said
 text_or_fault (Ok n) buffer = text (take n buffer)
 text_or_fault (Err (Refused f)) buffer = refused f
 text_or_fault (Err OutOfMemory) buffer = unsupported
+
+-- the same, by a text of its own
+abbrev pub text_or_failure : {A : Type 0} → Result (Vec ℕ A) Failure → Said
+text_or_failure (Ok bytes) = text (vec_items bytes)
+text_or_failure (Err (Refused f)) = refused f
+text_or_failure (Err OutOfMemory) = unsupported
 
 abbrev pub printed_as : Outcome → Said
 printed_as o = text_or_fault o.answer o.buffer

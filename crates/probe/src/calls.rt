@@ -1,7 +1,7 @@
 ghost use Rattle.std.specs.Prelude.{◌≡◌, ℕ, false};
 ghost use Rattle.answers.specs.Answers.{said};
 ghost use Rattle.script.specs.Calls.{asked_store, print};
-ghost use Rattle.probe.specs.Performing.{handle_or_fault, NotShort, Performs};
+ghost use Rattle.probe.specs.Performing.{NotShort, Performs, text_or_failure};
 
 use answers::Answer;
 use forest::{Failure, Fault, Reason, Store};
@@ -13,71 +13,68 @@ use std::alloc::Global;
 const FIRST_PLACES: u32 = 1_048_576;
 
 /// Performs a call on a store. What is answered to it and what the store means then follow from what the store meant before.
-pub fn perform<S: Store>(heap: Global, store: &mut S, call: &StoreCall) -> Answer
-    ensures { Performs S.Store.layer (asked_store call.now) (S.Store.means store.old) (said result) (S.Store.means store.new) }
+pub fn perform<S: Store>(alloc: Global, store: &mut S, call: &StoreCall) -> Answer
+    ensures { Performs S.Store.LAYER (asked_store call.now) (S.Store.means store.old) (said result) (S.Store.means store.new) }
 {
     match call {
         StoreCall::Space => Answer::Measures {
             count: store.count(),
             space: store.space(),
         },
-        StoreCall::Integer(value) => answer_made(store.make_integer(*value)),
-        StoreCall::Boolean(value) => answer_made(store.make_boolean(*value)),
-        StoreCall::String(text) => answer_made(store.make_string(text)),
-        StoreCall::Element { tag, children } => answer_made(store.make_element(*tag, children)),
-        StoreCall::Print { places, handles } => answer_printed(heap, store, *places, handles),
+        StoreCall::Integer(value) => store.make_integer(*value).into(),
+        StoreCall::Boolean(value) => store.make_boolean(*value).into(),
+        StoreCall::String(text) => store.make_string(text).into(),
+        StoreCall::Element { tag, children } => store.make_element(*tag, children).into(),
+        StoreCall::Print { places, handles } => {
+            printed(alloc, store, *places, handles).map_or_else(Answer::from, Answer::Printed)
+        }
         StoreCall::Capture(_) | StoreCall::Table { .. } | StoreCall::Tray(_) => Answer::Unsupported,
-    }
-}
-
-/// The handle or the place that a call gave, or its refusal.
-pub fn answer_made(made: Result<u32, Fault>) -> Answer
-    ensures { said result ≡ handle_or_fault made }
-{
-    match made {
-        Ok(number) => Answer::Number(number),
-        Err(fault) => Answer::Refused(fault),
     }
 }
 
 /// The text of the trees that the handles name, printed into a buffer of so many places. A large buffer is only taken where a smaller one
 /// was too short.
-fn answer_printed<S: Store>(heap: Global, store: &S, places: u32, handles: &[u32]) -> Answer
-    ensures { Performs S.Store.layer (print places handles.now) (S.Store.means store.now) (said result) (S.Store.means store.now) }
+fn printed<S: Store>(
+    alloc: Global,
+    store: &S,
+    places: u32,
+    handles: &[u32],
+) -> Result<Vec<u8>, Failure>
+    ensures { Performs S.Store.LAYER (print places handles.now) (S.Store.means store.now) (text_or_failure result) (S.Store.means store.now) }
 {
-    if places <= FIRST_PLACES {
-        return print_into(heap, store, places, handles);
+    if places > FIRST_PLACES {
+        let text = print_into(alloc, store, FIRST_PLACES, handles);
+        if !was_short(&text) {
+            return text;
+        }
     }
-    let answer = print_into(heap, store, FIRST_PLACES, handles);
-    if !was_short(&answer) {
-        return answer;
-    }
-    print_into(heap, store, places, handles)
+    print_into(alloc, store, places, handles)
 }
 
-/// Whether a call was refused for its buffer.
-fn was_short(answer: &Answer) -> bool
-    ensures { result ≡ false → NotShort (said answer.now) }
+/// Whether a text was refused for its buffer.
+fn was_short(text: &Result<Vec<u8>, Failure>) -> bool
+    ensures { result ≡ false → NotShort (text_or_failure text.now) }
 {
-    match answer {
-        Answer::Refused(fault) => fault.reason == Reason::BufferShort,
-        _ => false,
-    }
+    matches!(
+        text,
+        Err(Failure::Refused(Fault {
+            reason: Reason::BufferShort,
+            ..
+        }))
+    )
 }
 
 /// The text, printed into a new buffer.
-fn print_into<S: Store>(heap: Global, store: &S, places: u32, handles: &[u32]) -> Answer
-    ensures { Performs S.Store.layer (print places handles.now) (S.Store.means store.now) (said result) (S.Store.means store.now) }
+fn print_into<S: Store>(
+    alloc: Global,
+    store: &S,
+    places: u32,
+    handles: &[u32],
+) -> Result<Vec<u8>, Failure>
+    ensures { Performs S.Store.LAYER (print places handles.now) (S.Store.means store.now) (text_or_failure result) (S.Store.means store.now) }
 {
-    let Ok(mut buffer) = vec![in heap; 0u8; places as usize] else {
-        return Answer::Unsupported;
-    };
-    match print(heap, store, handles, &mut buffer) {
-        Ok(length) => {
-            buffer.truncate(length);
-            Answer::Printed(buffer)
-        }
-        Err(Failure::Refused(fault)) => Answer::Refused(fault),
-        Err(Failure::OutOfMemory) => Answer::Unsupported,
-    }
+    let mut buffer = vec![in alloc; 0u8; places as usize]?;
+    let length = print(alloc, store, handles, &mut buffer)?;
+    buffer.truncate(length);
+    Ok(buffer)
 }

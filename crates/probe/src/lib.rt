@@ -3,8 +3,7 @@
 mod calls;
 mod pile;
 mod probe;
-mod stores;
 
-pub use calls::{answer_made, perform};
+pub use calls::perform;
 pub use pile::Pile;
 pub use probe::Probe;

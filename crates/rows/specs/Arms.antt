@@ -16,6 +16,15 @@ pattern_of k t =
     (cond (k == 7) (then_some (t == 0) AnyElement)
     None))))
 
+-- the arm of a pattern, if there is one, with this body
+abbrev pub arm_with : Option Pattern → ℕ → Option Arm
+arm_with None body = None
+arm_with (Some p) body = Some (record { pattern = p; body = body })
+
+-- The arm that a kind, a tag and a body stand for.
+abbrev pub arm_of : ℕ → ℕ → ℕ → Option Arm
+arm_of k t body = arm_with (pattern_of k t) body
+
 abbrev pub pattern_fits : Pattern → Bool
 pattern_fits Integer = true
 pattern_fits String = true

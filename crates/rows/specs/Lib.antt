@@ -1,4 +1,5 @@
 pub mod TypeRows
+pub mod TypeTables
 pub mod Expressions
 pub mod Arms
 pub mod Functions

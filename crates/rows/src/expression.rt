@@ -1,16 +1,19 @@
 ghost use Rattle.std.specs.Prelude.{◌≡◌};
-ghost use Rattle.rows.specs.Expressions.{expression_of, plain_of, operation_of, small, expression_fits, element_tag, within, arms_within};
+ghost use Rattle.std.specs.Option.{ok_or};
+ghost use Rattle.forest.specs.declared.fault.Reason.TheVariants.{FieldOutOfRange};
+ghost use Rattle.rows.specs.Expressions.{expression_of, plain_of, small, expression_fits, element_tag, within, arms_within};
 
 use crate::function::FUNCTIONS;
 use crate::type_row::TYPE_ROWS;
-use forest::{integer_in_range, tag_in_range};
+use forest::{Reason, integer_in_range, tag_in_range};
 
 /// So many expression rows, and so many variables.
 pub const EXPRESSIONS: u32 = 512;
 
 /// A row of the expression table. Its parts are lower rows, and may be parts of other rows too.
-#[derive(Clone, Copy)]
+#[derive(Clone, Copy, PartialEq, Eq, Debug, Default)]
 pub enum Expression {
+    #[default]
     Error,
     Integer {
         value: i64,
@@ -81,33 +84,45 @@ pub enum Expression {
 }
 
 /// How many expressions, arms and bytes of text are there for a row to name.
-#[derive(Clone, Copy)]
+#[derive(Clone, Copy, PartialEq, Eq, Debug)]
 pub struct Room {
     pub expressions: u32,
     pub arms: u32,
     pub bytes: u32,
 }
 
-impl Expression {
-    /// The row that five numbers stand for: its kind is known, and a field that the kind does not use is 0.
-    pub fn from_numbers(kind: u8, a: i64, b: u32, c: u32, d: u32) -> Option<Expression>
-        ensures { result ≡ expression_of kind a b c d }
-    {
-        if kind == 1 {
-            return (b == 0 && c == 0 && d == 0).then_some(Expression::Integer { value: a });
-        }
-        match small(a) {
-            Some(a) => plain(kind, a, b, c, d),
-            None => None,
+/// The numbers of an expression row as they are given. The kind is no enum, since one that is not known has to be refused.
+#[derive(Clone, Copy, PartialEq, Eq, Debug)]
+pub struct RawExpression {
+    pub kind: u8,
+    pub a: i64,
+    pub b: u32,
+    pub c: u32,
+    pub d: u32,
+}
+
+/// The row that the numbers stand for: its kind is known, and a field that the kind does not use is 0.
+impl TryFrom<RawExpression> for Expression {
+    type Error = Reason;
+
+    ghost try_from_gives = { λ raw row. row ≡ ok_or (expression_of raw.kind raw.a raw.b raw.c raw.d) FieldOutOfRange };
+
+    fn try_from(raw: RawExpression) -> Result<Expression, Reason> {
+        let RawExpression { kind, a, b, c, d } = raw;
+        match (kind, b, c, d) {
+            (1, 0, 0, 0) => Ok(Expression::Integer { value: a }),
+            _ => plain(kind, small(a)?, b, c, d),
         }
     }
+}
 
+impl Expression {
     /// The tag of the element that the row makes.
     pub fn tag(self) -> Option<u32>
         ensures { result ≡ element_tag self }
     {
         match self {
-            Expression::Element { tag, content: _ } => Some(tag),
+            Expression::Element { tag, .. } => Some(tag),
             _ => None,
         }
     }
@@ -118,19 +133,33 @@ impl Expression {
     {
         let rows = room.expressions;
         match self {
-            Expression::Error | Expression::Empty | Expression::Boolean { value: _ } => true,
+            Expression::Error | Expression::Empty | Expression::Boolean { .. } => true,
             Expression::Integer { value } => integer_in_range(value),
             Expression::String { from, length } => within(from, length, room.bytes),
             Expression::Variable { number } => number < EXPRESSIONS,
             Expression::Element { tag, content } => tag_in_range(tag) && content < rows,
-            Expression::Sequence { first, second } => first < rows && second < rows,
+            Expression::Sequence { first, second }
+            | Expression::Let {
+                value: first,
+                body: second,
+            }
+            | Expression::For {
+                items: first,
+                body: second,
+            }
+            | Expression::Add {
+                left: first,
+                right: second,
+            }
+            | Expression::Equal {
+                left: first,
+                right: second,
+            } => first < rows && second < rows,
             Expression::If {
                 condition,
                 then,
                 otherwise,
             } => condition < rows && then < rows && otherwise < rows,
-            Expression::Let { value, body } => value < rows && body < rows,
-            Expression::For { items, body } => items < rows && body < rows,
             Expression::Match {
                 subject,
                 from,
@@ -138,77 +167,56 @@ impl Expression {
                 otherwise,
             } => subject < rows && otherwise < rows && arms_within(from, length, room.arms),
             Expression::Call { function, argument } => function < FUNCTIONS && argument < rows,
-            Expression::Add { left, right } => left < rows && right < rows,
-            Expression::Equal { left, right } => left < rows && right < rows,
-            Expression::IsEmpty { part } => part < rows,
-            Expression::Count { part } => part < rows,
-            Expression::Children { part } => part < rows,
+            Expression::IsEmpty { part }
+            | Expression::Count { part }
+            | Expression::Children { part } => part < rows,
             Expression::As { part, target } => part < rows && target < TYPE_ROWS,
         }
     }
 }
 
 /// What the first field is in a row of any kind but 1.
-fn small(a: i64) -> Option<u32>
-    ensures { result ≡ small a }
+fn small(a: i64) -> Result<u32, Reason>
+    ensures { result ≡ ok_or (small a) FieldOutOfRange }
 {
-    if a >= 0 && a <= 65_535 {
-        Some(a as u32)
-    } else {
-        None
-    }
+    u16::try_from(a)
+        .map(u32::from)
+        .map_err(|_| Reason::FieldOutOfRange)
 }
 
 /// A row of any kind but 1.
-fn plain(kind: u8, a: u32, b: u32, c: u32, d: u32) -> Option<Expression>
-    ensures { result ≡ plain_of kind a b c d }
+fn plain(kind: u8, a: u32, b: u32, c: u32, d: u32) -> Result<Expression, Reason>
+    ensures { result ≡ ok_or (plain_of kind a b c d) FieldOutOfRange }
 {
-    match kind {
-        2 => (a <= 1 && b == 0 && c == 0 && d == 0).then_some(Expression::Boolean {
-            value: a == 1,
+    match (kind, a, b, c, d) {
+        (2, 0 | 1, 0, 0, 0) => Ok(Expression::Boolean { value: a == 1 }),
+        (3, from, length, 0, 0) => Ok(Expression::String { from, length }),
+        (4, number, 0, 0, 0) => Ok(Expression::Variable { number }),
+        (5, tag, content, 0, 0) => Ok(Expression::Element { tag, content }),
+        (6, first, second, 0, 0) => Ok(Expression::Sequence { first, second }),
+        (7, 0, 0, 0, 0) => Ok(Expression::Empty),
+        (8, condition, then, otherwise, 0) => Ok(Expression::If {
+            condition,
+            then,
+            otherwise,
         }),
-        3 => (c == 0 && d == 0).then_some(Expression::String { from: a, length: b }),
-        4 => (b == 0 && c == 0 && d == 0).then_some(Expression::Variable { number: a }),
-        5 => (c == 0 && d == 0).then_some(Expression::Element { tag: a, content: b }),
-        6 => (c == 0 && d == 0).then_some(Expression::Sequence {
-            first: a,
-            second: b,
+        (9, value, body, 0, 0) => Ok(Expression::Let { value, body }),
+        (10, items, body, 0, 0) => Ok(Expression::For { items, body }),
+        (11, subject, from, otherwise, length) => Ok(Expression::Match {
+            subject,
+            from,
+            length,
+            otherwise,
         }),
-        7 => (a == 0 && b == 0 && c == 0 && d == 0).then_some(Expression::Empty),
-        8 => (d == 0).then_some(Expression::If {
-            condition: a,
-            then: b,
-            otherwise: c,
-        }),
-        9 => (c == 0 && d == 0).then_some(Expression::Let { value: a, body: b }),
-        10 => (c == 0 && d == 0).then_some(Expression::For { items: a, body: b }),
-        11 => Some(Expression::Match {
-            subject: a,
-            from: b,
-            length: d,
-            otherwise: c,
-        }),
-        12 => (c == 0 && d == 0).then_some(Expression::Call {
-            function: a,
-            argument: b,
-        }),
-        _ => operation(kind, a, b, c, d),
-    }
-}
-
-/// A row of the kinds from 13 on.
-fn operation(kind: u8, a: u32, b: u32, c: u32, d: u32) -> Option<Expression>
-    ensures { result ≡ operation_of kind a b c d }
-{
-    match kind {
-        13 => (a == 0 && b == 0 && c == 0 && d == 0).then_some(Expression::Error),
-        14 => (c == 0 && d == 0).then_some(Expression::Add { left: a, right: b }),
-        15 => (c == 0 && d == 0).then_some(Expression::Equal { left: a, right: b }),
-        16 => (b == 0 && c == 0 && d == 0).then_some(Expression::IsEmpty { part: a }),
-        17 => (b == 0 && c == 0 && d == 0).then_some(Expression::Count { part: a }),
-        18 => (b == 0 && c == 0 && d == 0).then_some(Expression::Children { part: a }),
-        19 => (c == 0 && d == 0).then_some(Expression::As { part: a, target: b }),
-        _ => None,
+        (12, function, argument, 0, 0) => Ok(Expression::Call { function, argument }),
+        (13, 0, 0, 0, 0) => Ok(Expression::Error),
+        (14, left, right, 0, 0) => Ok(Expression::Add { left, right }),
+        (15, left, right, 0, 0) => Ok(Expression::Equal { left, right }),
+        (16, part, 0, 0, 0) => Ok(Expression::IsEmpty { part }),
+        (17, part, 0, 0, 0) => Ok(Expression::Count { part }),
+        (18, part, 0, 0, 0) => Ok(Expression::Children { part }),
+        (19, part, target, 0, 0) => Ok(Expression::As { part, target }),
+        _ => Err(Reason::FieldOutOfRange),
     }
 }
 
@@ -216,7 +224,7 @@ fn operation(kind: u8, a: u32, b: u32, c: u32, d: u32) -> Option<Expression>
 fn within(from: u32, length: u32, count: u32) -> bool
     ensures { result ≡ within from length count }
 {
-    from as u64 + length as u64 <= count as u64
+    from.checked_add(length).is_some_and(|end| end <= count)
 }
 
 /// Whether a match names arms that are there; one with no arms names arm 0.

@@ -7,7 +7,7 @@ use crate::type_row::TYPE_ROWS;
 pub const FUNCTIONS: u32 = 32;
 
 /// A function: the types of its parameter and its result, which need not be there yet, and its body once it is set.
-#[derive(Clone, Copy)]
+#[derive(Clone, Copy, PartialEq, Eq, Debug, Default)]
 pub struct Function {
     pub parameter: u32,
     pub result: u32,
@@ -24,7 +24,7 @@ impl Function {
 }
 
 /// What is run: an expression row, on input of a type that need not be there yet.
-#[derive(Clone, Copy)]
+#[derive(Clone, Copy, PartialEq, Eq, Debug)]
 pub struct Query {
     pub input: u32,
     pub row: u32,

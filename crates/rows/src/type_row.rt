@@ -1,13 +1,15 @@
 ghost use Rattle.std.specs.Prelude.{◌≡◌};
+ghost use Rattle.std.specs.Option.{ok_or};
+ghost use Rattle.forest.specs.declared.fault.Reason.TheVariants.{FieldOutOfRange};
 ghost use Rattle.rows.specs.TypeRows.{type_of, type_fits, owns, shares, twice};
 
-use forest::tag_in_range;
+use forest::{Reason, tag_in_range};
 
 /// So many type rows, and so many contents that a row may name.
 pub const TYPE_ROWS: u32 = 512;
 
 /// A row of the type table. A part is a lower row; a content is any row, also one that is not there yet.
-#[derive(Clone, Copy)]
+#[derive(Clone, Copy, PartialEq, Eq, Debug)]
 pub enum TypeRow {
     EmptyChoice,
     EmptySequence,
@@ -21,32 +23,38 @@ pub enum TypeRow {
     Repetition { part: u32 },
 }
 
-impl TypeRow {
-    /// The row that three numbers stand for: its kind is known, and a field that the kind does not use is 0.
-    pub fn from_numbers(kind: u8, a: u32, b: u32) -> Option<TypeRow>
-        ensures { result ≡ type_of kind a b }
-    {
-        match kind {
-            1 => (a == 0 && b == 0).then_some(TypeRow::EmptyChoice),
-            2 => (a == 0 && b == 0).then_some(TypeRow::EmptySequence),
-            3 => (a == 0 && b == 0).then_some(TypeRow::Integer),
-            4 => (a == 0 && b == 0).then_some(TypeRow::String),
-            5 => (a == 0 && b == 0).then_some(TypeRow::Boolean),
-            6 => Some(TypeRow::Element { tag: a, content: b }),
-            7 => (a == 0).then_some(TypeRow::AnyElement { content: b }),
-            8 => Some(TypeRow::Sequence {
-                first: a,
-                second: b,
-            }),
-            9 => Some(TypeRow::Choice {
-                first: a,
-                second: b,
-            }),
-            10 => (b == 0).then_some(TypeRow::Repetition { part: a }),
-            _ => None,
+/// The numbers of a type row as they are given. The kind is no enum, since one that is not known has to be refused.
+#[derive(Clone, Copy, PartialEq, Eq, Debug)]
+pub struct RawType {
+    pub kind: u8,
+    pub a: u32,
+    pub b: u32,
+}
+
+/// The row that the numbers stand for: its kind is known, and a field that the kind does not use is 0.
+impl TryFrom<RawType> for TypeRow {
+    type Error = Reason;
+
+    ghost try_from_gives = { λ raw row. row ≡ ok_or (type_of raw.kind raw.a raw.b) FieldOutOfRange };
+
+    fn try_from(raw: RawType) -> Result<TypeRow, Reason> {
+        match (raw.kind, raw.a, raw.b) {
+            (1, 0, 0) => Ok(TypeRow::EmptyChoice),
+            (2, 0, 0) => Ok(TypeRow::EmptySequence),
+            (3, 0, 0) => Ok(TypeRow::Integer),
+            (4, 0, 0) => Ok(TypeRow::String),
+            (5, 0, 0) => Ok(TypeRow::Boolean),
+            (6, tag, content) => Ok(TypeRow::Element { tag, content }),
+            (7, 0, content) => Ok(TypeRow::AnyElement { content }),
+            (8, first, second) => Ok(TypeRow::Sequence { first, second }),
+            (9, first, second) => Ok(TypeRow::Choice { first, second }),
+            (10, part, 0) => Ok(TypeRow::Repetition { part }),
+            _ => Err(Reason::FieldOutOfRange),
         }
     }
+}
 
+impl TypeRow {
     /// Whether the row's fields are in range where `count` rows are there already.
     pub fn fits(self, count: u32) -> bool
         ensures { result ≡ type_fits count self }
@@ -54,8 +62,9 @@ impl TypeRow {
         match self {
             TypeRow::Element { tag, content } => tag_in_range(tag) && content < TYPE_ROWS,
             TypeRow::AnyElement { content } => content < TYPE_ROWS,
-            TypeRow::Sequence { first, second } => first < count && second < count,
-            TypeRow::Choice { first, second } => first < count && second < count,
+            TypeRow::Sequence { first, second } | TypeRow::Choice { first, second } => {
+                first < count && second < count
+            }
             TypeRow::Repetition { part } => part < count,
             _ => true,
         }
@@ -66,8 +75,9 @@ impl TypeRow {
         ensures { result ≡ owns self row }
     {
         match self {
-            TypeRow::Sequence { first, second } => first == row || second == row,
-            TypeRow::Choice { first, second } => first == row || second == row,
+            TypeRow::Sequence { first, second } | TypeRow::Choice { first, second } => {
+                first == row || second == row
+            }
             TypeRow::Repetition { part } => part == row,
             _ => false,
         }
@@ -78,8 +88,9 @@ impl TypeRow {
         ensures { result ≡ shares self other }
     {
         match self {
-            TypeRow::Sequence { first, second } => other.owns(first) || other.owns(second),
-            TypeRow::Choice { first, second } => other.owns(first) || other.owns(second),
+            TypeRow::Sequence { first, second } | TypeRow::Choice { first, second } => {
+                other.owns(first) || other.owns(second)
+            }
             TypeRow::Repetition { part } => other.owns(part),
             _ => false,
         }
@@ -90,8 +101,9 @@ impl TypeRow {
         ensures { result ≡ twice self }
     {
         match self {
-            TypeRow::Sequence { first, second } => first == second,
-            TypeRow::Choice { first, second } => first == second,
+            TypeRow::Sequence { first, second } | TypeRow::Choice { first, second } => {
+                first == second
+            }
             _ => false,
         }
     }

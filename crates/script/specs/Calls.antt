@@ -2,6 +2,10 @@
 use Rattle.std.specs.Prelude.{ℕ, List, ℤ, vec_items, codes}
 use Rattle.forest.specs.declared.space.Space.{Space}
 use Rattle.table.specs.declared.row.RawRow.{RawRow}
+use Rattle.rows.specs.declared.type_row.RawType.{RawType}
+use Rattle.rows.specs.declared.arm.RawArm.{RawArm}
+use Rattle.rows.specs.declared.expression.RawExpression.{RawExpression}
+use Rattle.rows.specs.declared.function.Query.{Query as RawQuery}
 use Rattle.script.specs.declared.call.StoreCall.{StoreCall}
 use Rattle.script.specs.declared.call.StoreCall.TheVariants.{Capture, Table, Tray, Space as SpaceLeft, Integer, Boolean, String, Element, Print}
 use Rattle.script.specs.declared.call.SessionCall.{SessionCall}
@@ -24,9 +28,11 @@ pub data StoreAsked : Type 0 where
 -- What a line asks of a session.
 pub data SessionAsked : Type 0 where
   text : List ℕ → SessionAsked
-  type arm : ℕ → ℕ → ℕ → SessionAsked
-  function body query : ℕ → ℕ → SessionAsked
-  expression : ℕ → ℤ → ℕ → ℕ → ℕ → SessionAsked
+  type : RawType → SessionAsked
+  function body : ℕ → ℕ → SessionAsked
+  arm : RawArm → SessionAsked
+  expression : RawExpression → SessionAsked
+  query : RawQuery → SessionAsked
   tags : ℕ → SessionAsked
   clear : SessionAsked
 
@@ -48,12 +54,12 @@ asked_store (Print places handles) = print places (vec_items handles)
 
 abbrev pub asked_session : SessionCall → SessionAsked
 asked_session (Text bytes) = text (vec_items bytes)
-asked_session (TypeRow kind a b) = type kind a b
+asked_session (TypeRow row) = type row
 asked_session (Function parameter result) = function parameter result
-asked_session (Arm kind tag row) = arm kind tag row
-asked_session (Expression kind a b c d) = expression kind a b c d
+asked_session (Arm given) = arm given
+asked_session (Expression row) = expression row
 asked_session (Body owner row) = body owner row
-asked_session (Query input row) = query input row
+asked_session (Query given) = query given
 asked_session (Tags places) = tags places
 asked_session Clear = clear
 
@@ -76,12 +82,12 @@ store_word (print places handles) = codes "print"
 
 abbrev pub session_word : SessionAsked → List ℕ
 session_word (text bytes) = codes "text"
-session_word (type kind a b) = codes "type"
+session_word (type row) = codes "type"
 session_word (function parameter result) = codes "function"
-session_word (arm kind tag row) = codes "arm"
-session_word (expression kind a b c d) = codes "expression"
+session_word (arm given) = codes "arm"
+session_word (expression row) = codes "expression"
 session_word (body owner row) = codes "body"
-session_word (query input row) = codes "query"
+session_word (query given) = codes "query"
 session_word (tags places) = codes "tags"
 session_word clear = codes "clear"
 

@@ -2,6 +2,7 @@ ghost use Rattle.std.specs.Prelude.{◌≡◌};
 ghost use Rattle.script.specs.Calls.{asked, asked_store, asked_session, word_of, store_word, session_word};
 
 use forest::Space;
+use rows::{Query, RawArm, RawExpression, RawType};
 use table::RawRow;
 
 /// A call on a store, or one that puts another store in its place.
@@ -30,77 +31,53 @@ pub enum StoreCall {
 
 impl StoreCall {
     /// The word that names the call.
-    fn word(&self) -> &'static [u8]
+    fn word(&self) -> &'static str
         ensures { result.now ≡ store_word (asked_store self.now) }
     {
         match self {
-            StoreCall::Capture(_) => b"capture",
-            StoreCall::Table { .. } => b"table",
-            StoreCall::Tray(_) => b"tray",
-            StoreCall::Space => b"space",
-            StoreCall::Integer(_) => b"integer",
-            StoreCall::Boolean(_) => b"boolean",
-            StoreCall::String(_) => b"string",
-            StoreCall::Element { .. } => b"element",
-            StoreCall::Print { .. } => b"print",
+            StoreCall::Capture(_) => "capture",
+            StoreCall::Table { .. } => "table",
+            StoreCall::Tray(_) => "tray",
+            StoreCall::Space => "space",
+            StoreCall::Integer(_) => "integer",
+            StoreCall::Boolean(_) => "boolean",
+            StoreCall::String(_) => "string",
+            StoreCall::Element { .. } => "element",
+            StoreCall::Print { .. } => "print",
         }
     }
 }
 
 /// A call on a session.
+// A history's `Call` is another type: it lends its text, and has no `Tags`, since a history holds only what can change a session.
 #[derive(PartialEq, Eq, Drop)]
 pub enum SessionCall {
     Text(Vec<u8>),
-    Type {
-        kind: u8,
-        a: u32,
-        b: u32,
-    },
-    Function {
-        parameter: u32,
-        result: u32,
-    },
-    Arm {
-        kind: u8,
-        tag: u32,
-        body: u32,
-    },
-    Expression {
-        kind: u8,
-        a: i64,
-        b: u32,
-        c: u32,
-        d: u32,
-    },
-    Body {
-        function: u32,
-        row: u32,
-    },
-    Query {
-        input: u32,
-        row: u32,
-    },
-    Tags {
-        places: u32,
-    },
+    Type(RawType),
+    Function { parameter: u32, result: u32 },
+    Arm(RawArm),
+    Expression(RawExpression),
+    Body { function: u32, row: u32 },
+    Query(Query),
+    Tags { places: u32 },
     Clear,
 }
 
 impl SessionCall {
     /// The word that names the call.
-    fn word(&self) -> &'static [u8]
+    fn word(&self) -> &'static str
         ensures { result.now ≡ session_word (asked_session self.now) }
     {
         match self {
-            SessionCall::Text(_) => b"text",
-            SessionCall::Type { .. } => b"type",
-            SessionCall::Function { .. } => b"function",
-            SessionCall::Arm { .. } => b"arm",
-            SessionCall::Expression { .. } => b"expression",
-            SessionCall::Body { .. } => b"body",
-            SessionCall::Query { .. } => b"query",
-            SessionCall::Tags { .. } => b"tags",
-            SessionCall::Clear => b"clear",
+            SessionCall::Text(_) => "text",
+            SessionCall::Type(_) => "type",
+            SessionCall::Function { .. } => "function",
+            SessionCall::Arm(_) => "arm",
+            SessionCall::Expression(_) => "expression",
+            SessionCall::Body { .. } => "body",
+            SessionCall::Query(_) => "query",
+            SessionCall::Tags { .. } => "tags",
+            SessionCall::Clear => "clear",
         }
     }
 }
@@ -114,7 +91,7 @@ pub enum Call {
 
 impl Call {
     /// The word that names the call.
-    pub fn word(&self) -> &'static [u8]
+    pub fn word(&self) -> &'static str
         ensures { result.now ≡ word_of (asked self.now) }
     {
         match self {

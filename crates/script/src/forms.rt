@@ -1,168 +1,121 @@
-ghost use Rattle.std.specs.Prelude.{◌≡◌, IfOk, codes};
+ghost use Rattle.std.specs.Prelude.{◌≡◌, codes, vec_items};
 ghost use Rattle.std.specs.Option.{option_map};
+ghost use Rattle.fields.specs.Bytes.{bytes_of};
 ghost use Rattle.fields.specs.Lists.{texts};
-ghost use Rattle.script.specs.Calls.{asked};
-ghost use Rattle.script.specs.Forms.{call_of};
+ghost use Rattle.fields.specs.Reading.{Reads};
+ghost use Rattle.fields.specs.Words.{only, given};
+ghost use Rattle.script.specs.Calls.{asked, asked_store};
+ghost use Rattle.script.specs.Forms.{call_of, store_call_of};
 
 use crate::call::{Call, StoreCall};
 use crate::session_forms::read_session_form;
-use fields::{
-    first_word, no_words, only_word, read_bytes, read_i64, read_number_list, read_numbers,
-    read_row_list, read_u32, same_word, three_words,
-};
+use fields::{Field, ReadError, read_all, read_bytes, read_number_list, read_row_list};
 use forest::Space;
-use std::alloc::{AllocError, Global};
+use std::alloc::Global;
 
-/// `capture BYTES`
-fn read_capture(heap: Global, words: &[&[u8]]) -> Result<Option<Call>, AllocError>
-    ensures { IfOk result (λ o. option_map asked o ≡ call_of (codes "capture") (texts words.now)) }
+// Each form of no word, or of more than one, has a reader of its own, which names the words that the form takes, as docs/script.md
+// does. A reader that such forms share would be given what to make of the words, and name none.
+
+/// The value of the one word there is.
+pub(crate) fn read_one<T: Field>(words: &[&[u8]]) -> Option<T>
+    ensures { result ≡ given (only (texts words.now)) T.meaning }
 {
-    let Some(word) = only_word(words) else {
-        return Ok(None);
+    let [word] = words else {
+        return None;
     };
-    match read_bytes(heap, word)? {
-        Some(bytes) => Ok(Some(Call::Store(StoreCall::Capture(bytes)))),
-        None => Ok(None),
-    }
+    T::read(word)
+}
+
+/// The bytes of the one word there is.
+pub(crate) fn read_one_bytes(alloc: Global, words: &[&[u8]]) -> Result<Vec<u8>, ReadError>
+    ensures { Reads vec_items (given (only (texts words.now)) bytes_of) result }
+{
+    let [word] = words else {
+        return Err(ReadError::Malformed);
+    };
+    read_bytes(alloc, word)
 }
 
 /// `table ROWS CHILDREN BYTES`
-fn read_table(heap: Global, words: &[&[u8]]) -> Result<Option<Call>, AllocError>
-    ensures { IfOk result (λ o. option_map asked o ≡ call_of (codes "table") (texts words.now)) }
+fn read_table(alloc: Global, words: &[&[u8]]) -> Result<StoreCall, ReadError>
+    ensures { Reads asked_store (store_call_of (codes "table") (texts words.now)) result }
 {
-    let Some((rows, children, text)) = three_words(words) else {
-        return Ok(None);
+    let [rows, children, text] = words else {
+        return Err(ReadError::Malformed);
     };
-    let Some(rows) = read_row_list(heap, rows)? else {
-        return Ok(None);
-    };
-    let Some(children) = read_number_list(heap, children)? else {
-        return Ok(None);
-    };
-    match read_bytes(heap, text)? {
-        Some(text) => Ok(Some(Call::Store(StoreCall::Table {
-            rows,
-            children,
-            text,
-        }))),
-        None => Ok(None),
-    }
+    Ok(StoreCall::Table {
+        rows: read_row_list(alloc, rows)?,
+        children: read_number_list(alloc, children)?,
+        text: read_bytes(alloc, text)?,
+    })
 }
 
 /// `tray TREES CHILDREN BYTES`
-fn read_tray(words: &[&[u8]]) -> Option<Call>
-    ensures { option_map asked result ≡ call_of (codes "tray") (texts words.now) }
+fn read_tray(words: &[&[u8]]) -> Option<StoreCall>
+    ensures { option_map asked_store result ≡ store_call_of (codes "tray") (texts words.now) }
 {
-    let (trees, children, bytes) = three_words(words)?;
-    let trees = read_u32(trees)?;
-    let children = read_u32(children)?;
-    let bytes = read_u32(bytes)?;
-    Some(Call::Store(StoreCall::Tray(Space {
-        trees,
-        children,
-        bytes,
-    })))
+    let [trees, children, bytes] = words else {
+        return None;
+    };
+    Some(StoreCall::Tray(Space {
+        trees: u32::read(trees)?,
+        children: u32::read(children)?,
+        bytes: u32::read(bytes)?,
+    }))
 }
 
 /// `space`
-fn read_space(words: &[&[u8]]) -> Option<Call>
-    ensures { option_map asked result ≡ call_of (codes "space") (texts words.now) }
+fn read_space(words: &[&[u8]]) -> Option<StoreCall>
+    ensures { option_map asked_store result ≡ store_call_of (codes "space") (texts words.now) }
 {
-    if no_words(words) {
-        Some(Call::Store(StoreCall::Space))
-    } else {
-        None
-    }
-}
-
-/// `integer VALUE`
-fn read_integer(words: &[&[u8]]) -> Option<Call>
-    ensures { option_map asked result ≡ call_of (codes "integer") (texts words.now) }
-{
-    let word = only_word(words)?;
-    Some(Call::Store(StoreCall::Integer(read_i64(word)?)))
-}
-
-/// `boolean VALUE`
-fn read_boolean(words: &[&[u8]]) -> Option<Call>
-    ensures { option_map asked result ≡ call_of (codes "boolean") (texts words.now) }
-{
-    let word = only_word(words)?;
-    Some(Call::Store(StoreCall::Boolean(read_u32(word)?)))
-}
-
-/// `string BYTES`
-fn read_string(heap: Global, words: &[&[u8]]) -> Result<Option<Call>, AllocError>
-    ensures { IfOk result (λ o. option_map asked o ≡ call_of (codes "string") (texts words.now)) }
-{
-    let Some(word) = only_word(words) else {
-        return Ok(None);
-    };
-    match read_bytes(heap, word)? {
-        Some(bytes) => Ok(Some(Call::Store(StoreCall::String(bytes)))),
-        None => Ok(None),
-    }
+    words.is_empty().then_some(StoreCall::Space)
 }
 
 /// `element TAG HANDLE...`
-fn read_element(heap: Global, words: &[&[u8]]) -> Result<Option<Call>, AllocError>
-    ensures { IfOk result (λ o. option_map asked o ≡ call_of (codes "element") (texts words.now)) }
+fn read_element(alloc: Global, words: &[&[u8]]) -> Result<StoreCall, ReadError>
+    ensures { Reads asked_store (store_call_of (codes "element") (texts words.now)) result }
 {
-    let Some((tag, handles)) = first_word(words) else {
-        return Ok(None);
+    let [tag, children @ ..] = words else {
+        return Err(ReadError::Malformed);
     };
-    let Some(tag) = read_u32(tag) else {
-        return Ok(None);
-    };
-    match read_numbers(heap, handles)? {
-        Some(children) => Ok(Some(Call::Store(StoreCall::Element { tag, children }))),
-        None => Ok(None),
-    }
+    Ok(StoreCall::Element {
+        tag: u32::read(tag).ok_or(ReadError::Malformed)?,
+        children: read_all(alloc, children)?,
+    })
 }
 
 /// `print PLACES HANDLE...`
-fn read_print(heap: Global, words: &[&[u8]]) -> Result<Option<Call>, AllocError>
-    ensures { IfOk result (λ o. option_map asked o ≡ call_of (codes "print") (texts words.now)) }
+fn read_print(alloc: Global, words: &[&[u8]]) -> Result<StoreCall, ReadError>
+    ensures { Reads asked_store (store_call_of (codes "print") (texts words.now)) result }
 {
-    let Some((places, handles)) = first_word(words) else {
-        return Ok(None);
+    let [places, handles @ ..] = words else {
+        return Err(ReadError::Malformed);
     };
-    let Some(places) = read_u32(places) else {
-        return Ok(None);
-    };
-    match read_numbers(heap, handles)? {
-        Some(handles) => Ok(Some(Call::Store(StoreCall::Print { places, handles }))),
-        None => Ok(None),
-    }
+    Ok(StoreCall::Print {
+        places: u32::read(places).ok_or(ReadError::Malformed)?,
+        handles: read_all(alloc, handles)?,
+    })
 }
 
 /// The call that a word and the words after it stand for.
-pub(crate) fn read_form(
-    heap: Global,
-    name: &[u8],
-    words: &[&[u8]],
-) -> Result<Option<Call>, AllocError>
-    ensures { IfOk result (λ o. option_map asked o ≡ call_of name.now (texts words.now)) }
+pub(crate) fn read_form(alloc: Global, name: &str, words: &[&[u8]]) -> Result<Call, ReadError>
+    ensures { Reads asked (call_of name.now (texts words.now)) result }
 {
-    if same_word(name, b"capture") {
-        read_capture(heap, words)
-    } else if same_word(name, b"table") {
-        read_table(heap, words)
-    } else if same_word(name, b"tray") {
-        Ok(read_tray(words))
-    } else if same_word(name, b"space") {
-        Ok(read_space(words))
-    } else if same_word(name, b"integer") {
-        Ok(read_integer(words))
-    } else if same_word(name, b"boolean") {
-        Ok(read_boolean(words))
-    } else if same_word(name, b"string") {
-        read_string(heap, words)
-    } else if same_word(name, b"element") {
-        read_element(heap, words)
-    } else if same_word(name, b"print") {
-        read_print(heap, words)
-    } else {
-        read_session_form(heap, name, words)
-    }
+    let call = match name {
+        "capture" => read_one_bytes(alloc, words).map(StoreCall::Capture),
+        "table" => read_table(alloc, words),
+        "tray" => read_tray(words).ok_or(ReadError::Malformed),
+        "space" => read_space(words).ok_or(ReadError::Malformed),
+        "integer" => read_one(words)
+            .map(StoreCall::Integer)
+            .ok_or(ReadError::Malformed),
+        "boolean" => read_one(words)
+            .map(StoreCall::Boolean)
+            .ok_or(ReadError::Malformed),
+        "string" => read_one_bytes(alloc, words).map(StoreCall::String),
+        "element" => read_element(alloc, words),
+        "print" => read_print(alloc, words),
+        _ => return Ok(Call::Session(read_session_form(alloc, name, words)?)),
+    };
+    Ok(Call::Store(call?))
 }

@@ -4,39 +4,42 @@
 mod tests {
     use answers::{Answer, write_answer};
     use forest::{Fault, Reason, Space};
+    use rows::{Query, RawArm, RawExpression, RawType};
     use script::{Call, Reading, SessionCall, StoreCall, read_call};
     use std::alloc::Global;
     use std::process::Abort;
     use std::test::Fail;
     use table::RawRow;
 
-    fn silent(rt: &impl Abort, heap: Global, line: &[u8]) -> Result<(), Fail> {
-        assert!(rt; read_call(heap, line)? == Reading::Silent);
+    // The runtime and the allocator are passed on and not kept in a struct, as everywhere.
+
+    fn silent(rt: &impl Abort, alloc: Global, line: &[u8]) -> Result<(), Fail> {
+        assert!(rt; read_call(alloc, line)? == Reading::Silent);
         Ok(())
     }
 
-    fn malformed(rt: &impl Abort, heap: Global, line: &[u8]) -> Result<(), Fail> {
-        assert!(rt; read_call(heap, line)? == Reading::Malformed);
+    fn malformed(rt: &impl Abort, alloc: Global, line: &[u8]) -> Result<(), Fail> {
+        assert!(rt; read_call(alloc, line)? == Reading::Malformed);
         Ok(())
     }
 
-    fn on_store(rt: &impl Abort, heap: Global, line: &[u8], call: StoreCall) -> Result<(), Fail> {
-        assert!(rt; read_call(heap, line)? == Reading::Call(Call::Store(call)));
+    fn on_store(rt: &impl Abort, alloc: Global, line: &[u8], call: StoreCall) -> Result<(), Fail> {
+        assert!(rt; read_call(alloc, line)? == Reading::Call(Call::Store(call)));
         Ok(())
     }
 
     fn on_session(
         rt: &impl Abort,
-        heap: Global,
+        alloc: Global,
         line: &[u8],
         call: SessionCall,
     ) -> Result<(), Fail> {
-        assert!(rt; read_call(heap, line)? == Reading::Call(Call::Session(call)));
+        assert!(rt; read_call(alloc, line)? == Reading::Call(Call::Session(call)));
         Ok(())
     }
 
-    fn answered(rt: &impl Abort, heap: Global, answer: Answer, line: &[u8]) -> Result<(), Fail> {
-        let written = write_answer(heap, 7, b"print", &answer)?;
+    fn answered(rt: &impl Abort, alloc: Global, answer: Answer, line: &[u8]) -> Result<(), Fail> {
+        let written = write_answer(alloc, 7, b"print", &answer)?;
         assert!(rt; written.as_slice() == line);
         Ok(())
     }
@@ -50,23 +53,23 @@ mod tests {
 
     #[test]
     fn store_calls(rt: HostRuntime) -> Result<(), Fail> {
-        let heap = rt.alloc();
-        on_store(&rt, heap, b"space", StoreCall::Space)?;
+        let alloc = rt.alloc();
+        on_store(&rt, alloc, b"space", StoreCall::Space)?;
         on_store(
             &rt,
-            heap,
+            alloc,
             b"integer -9223372036854775808",
             StoreCall::Integer(i64::MIN),
         )?;
         on_store(
             &rt,
-            heap,
+            alloc,
             b"boolean 4294967295",
             StoreCall::Boolean(u32::MAX),
         )?;
         on_store(
             &rt,
-            heap,
+            alloc,
             b"tray 1 002 3",
             StoreCall::Tray(Space {
                 trees: 1,
@@ -76,24 +79,24 @@ mod tests {
         )?;
         on_store(
             &rt,
-            heap,
+            alloc,
             b"capture 00fF",
-            StoreCall::Capture(Vec::from_slice(heap, b"\x00\xff")?),
+            StoreCall::Capture(Vec::from_slice(alloc, b"\x00\xff")?),
         )?;
         on_store(
             &rt,
-            heap,
+            alloc,
             b"element 9",
             StoreCall::Element {
                 tag: 9,
-                children: Vec::new(heap),
+                children: Vec::new(alloc),
             },
         )
     }
 
     #[test]
     fn table_call(rt: HostRuntime) -> Result<(), Fail> {
-        let heap = rt.alloc();
+        let alloc = rt.alloc();
         let leaf = RawRow {
             kind: 3,
             tag: 0,
@@ -110,34 +113,34 @@ mod tests {
         };
         on_store(
             &rt,
-            heap,
+            alloc,
             b"table 3,0,0,0,-5;6,2,0,1,0 0,1 -",
             StoreCall::Table {
-                rows: vec![in heap; leaf, element]?,
-                children: vec![in heap; 0, 1]?,
-                text: Vec::new(heap),
+                rows: vec![in alloc; leaf, element]?,
+                children: vec![in alloc; 0, 1]?,
+                text: Vec::new(alloc),
             },
         )
     }
 
     #[test]
     fn session_calls(rt: HostRuntime) -> Result<(), Fail> {
-        let heap = rt.alloc();
-        on_session(&rt, heap, b"clear", SessionCall::Clear)?;
-        on_session(&rt, heap, b"text -", SessionCall::Text(Vec::new(heap)))?;
+        let alloc = rt.alloc();
+        on_session(&rt, alloc, b"clear", SessionCall::Clear)?;
+        on_session(&rt, alloc, b"text -", SessionCall::Text(Vec::new(alloc)))?;
         on_session(
             &rt,
-            heap,
+            alloc,
             b"type 255 1 2",
-            SessionCall::Type {
+            SessionCall::Type(RawType {
                 kind: 255,
                 a: 1,
                 b: 2,
-            },
+            }),
         )?;
         on_session(
             &rt,
-            heap,
+            alloc,
             b"function 3 4",
             SessionCall::Function {
                 parameter: 3,
@@ -146,59 +149,59 @@ mod tests {
         )?;
         on_session(
             &rt,
-            heap,
+            alloc,
             b"arm 1 65536 4294967295",
-            SessionCall::Arm {
+            SessionCall::Arm(RawArm {
                 kind: 1,
                 tag: 65_536,
                 body: u32::MAX,
-            },
+            }),
         )?;
         on_session(
             &rt,
-            heap,
+            alloc,
             b"query 5 6",
-            SessionCall::Query { input: 5, row: 6 },
+            SessionCall::Query(Query { input: 5, row: 6 }),
         )
     }
 
     #[test]
     fn expression_call(rt: HostRuntime) -> Result<(), Fail> {
-        let heap = rt.alloc();
+        let alloc = rt.alloc();
         on_session(
             &rt,
-            heap,
+            alloc,
             b"expression 17 -1 2 3 4",
-            SessionCall::Expression {
+            SessionCall::Expression(RawExpression {
                 kind: 17,
                 a: -1,
                 b: 2,
                 c: 3,
                 d: 4,
-            },
+            }),
         )?;
-        malformed(&rt, heap, b"expression 17 1 -2 3 4")?;
-        malformed(&rt, heap, b"expression 17 9223372036854775808 2 3 4")?;
-        malformed(&rt, heap, b"expression 17 1 2 3")
+        malformed(&rt, alloc, b"expression 17 1 -2 3 4")?;
+        malformed(&rt, alloc, b"expression 17 9223372036854775808 2 3 4")?;
+        malformed(&rt, alloc, b"expression 17 1 2 3")
     }
 
     #[test]
     fn malformed_lines(rt: HostRuntime) -> Result<(), Fail> {
-        let heap = rt.alloc();
-        malformed(&rt, heap, b"spaces")?;
-        malformed(&rt, heap, b"space 1")?;
-        malformed(&rt, heap, b" space")?;
-        malformed(&rt, heap, b"tray 1  2 3")?;
-        malformed(&rt, heap, b"boolean 4294967296")?;
-        malformed(&rt, heap, b"capture 0")?;
-        malformed(&rt, heap, b"type 256 1 2")?;
-        malformed(&rt, heap, b"tags")?;
-        malformed(&rt, heap, b"clear ")
+        let alloc = rt.alloc();
+        malformed(&rt, alloc, b"spaces")?;
+        malformed(&rt, alloc, b"space 1")?;
+        malformed(&rt, alloc, b" space")?;
+        malformed(&rt, alloc, b"tray 1  2 3")?;
+        malformed(&rt, alloc, b"boolean 4294967296")?;
+        malformed(&rt, alloc, b"capture 0")?;
+        malformed(&rt, alloc, b"type 256 1 2")?;
+        malformed(&rt, alloc, b"tags")?;
+        malformed(&rt, alloc, b"clear ")
     }
 
     #[test]
     fn answer_lines(rt: HostRuntime) -> Result<(), Fail> {
-        let heap = rt.alloc();
+        let alloc = rt.alloc();
         let fault = Fault {
             reason: Reason::NoSuchHandle,
             layer: 4,
@@ -206,18 +209,23 @@ mod tests {
         };
         answered(
             &rt,
-            heap,
-            Answer::Numbers(vec![in heap; 1, 20]?),
+            alloc,
+            Answer::Numbers(vec![in alloc; 1, 20]?),
             b"7 print ok 1 20",
         )?;
         answered(
             &rt,
-            heap,
-            Answer::Printed(Vec::from_slice(heap, b"<a/>")?),
+            alloc,
+            Answer::Printed(Vec::from_slice(alloc, b"<a/>")?),
             b"7 print ok 4 <a/>",
         )?;
-        answered(&rt, heap, Answer::Refused(fault), b"7 print refused 33 4 0")?;
-        answered(&rt, heap, Answer::Malformed, b"7 ? malformed")?;
-        answered(&rt, heap, Answer::Unsupported, b"7 print unsupported")
+        answered(
+            &rt,
+            alloc,
+            Answer::Refused(fault),
+            b"7 print refused 33 4 0",
+        )?;
+        answered(&rt, alloc, Answer::Malformed, b"7 ? malformed")?;
+        answered(&rt, alloc, Answer::Unsupported, b"7 print unsupported")
     }
 }

@@ -1,7 +1,10 @@
 -- Laws of the rules on rows.
-use Rattle.std.proofs.Common.{◌≡◌, ℕ, zero, suc, ◌+◌, ◌≤◌, Bool, true, false, cond, not, ◌&&◌, eqb, ltb, List, [], ◌∷◌, ◌++◌, length, Some, None, Option, sym, refl, ap, ◌∙◌, append_assoc, arith, ltb-true, lt-ltb, le-leb, leb-true}
+use Rattle.std.proofs.Common.{◌≡◌, ℕ, suc, ◌+◌, ◌<◌, ◌≤◌, Bool, true, false, cond, not, ◌&&◌, eqb, ltb, List, [], ◌∷◌, ◌++◌, length, get_or, Some, None, Option, sym, refl, ap, ◌∙◌, append_assoc, arith, ltb-true, lt-ltb, le-leb, leb-true}
 use Rattle.std.proofs.lemmas.List.{append-nil}
-use Rattle.forest.proofs.Picked.{both, and_true}
+use Rattle.std.proofs.lemmas.Bool.{and_parts, and_from}
+use Rattle.std.proofs.lemmas.List.Elements.{All-get_or, All-push, All-set, All-weaker}
+use Rattle.std.proofs.lemmas.List.Sums.{AllPass-from_list_all, list_all-from_AllPass}
+use Rattle.std.specs.List.{list_all}
 use Rattle.rows.specs.declared.type_row.TypeRow.{TypeRow}
 use Rattle.rows.specs.declared.expression.Expression.{Expression}
 use Rattle.rows.specs.declared.expression.Expression.TheVariants.{Error, Integer, Boolean, String, Variable, Element, Sequence, Empty, If, Let, For, Match, Call, Add, Equal, IsEmpty, Count, Children, As}
@@ -13,20 +16,21 @@ use Rattle.rows.specs.TypeRows.{type_fits, twice}
 use Rattle.rows.specs.Expressions.{expression_fits, within, arms_within}
 use Rattle.rows.specs.Arms.{arm_fits, pattern_fits}
 use Rattle.rows.specs.Functions.{function_fits}
-use Rattle.session.specs.Bodies.{body_set, with_body}
-use Rattle.session.specs.Rules.{free, type_right, types_lawful, expressions_lawful, arms_lawful, body_there, function_right, functions_lawful, query_lawful}
+use Rattle.session.specs.Bodies.{body_set, with_body, no_function}
+use Rattle.rows.specs.TypeTables.{free, type_right, types_lawful}
+use Rattle.session.specs.Rules.{expressions_lawful, arms_lawful, body_there, function_right, functions_lawful, query_lawful}
 
 -- one row more
 
 pub types-push : (before rs : List TypeRow) (r : TypeRow) → types_lawful before rs ≡ true → type_right (before ++ rs) r ≡ true → types_lawful before (rs ++ (r ∷ [])) ≡ true
-types-push before [] r law right = and_true (type_right before r) true (ap (λ b. type_right b r) (sym (append-nil before)) ∙ right) refl
+types-push before [] r law right = and_from (type_right before r) true (ap (λ b. type_right b r) (sym (append-nil before)) ∙ right) refl
 types-push before (q ∷ rs) r law right =
-    let p = both (type_right before q) (types_lawful (before ++ (q ∷ [])) rs) law in
-    and_true (type_right before q) (types_lawful (before ++ (q ∷ [])) (rs ++ (r ∷ []))) p.0 (types-push (before ++ (q ∷ [])) rs r p.1 (ap (λ b. type_right b r) (append_assoc before (q ∷ []) rs) ∙ right))
+    let p = and_parts (type_right before q) (types_lawful (before ++ (q ∷ [])) rs) law in
+    and_from (type_right before q) (types_lawful (before ++ (q ∷ [])) (rs ++ (r ∷ []))) p.0 (types-push (before ++ (q ∷ [])) rs r p.1 (ap (λ b. type_right b r) (append_assoc before (q ∷ []) rs) ∙ right))
 
 pub right : (before : List TypeRow) (n : ℕ) (r : TypeRow) → length before ≡ n → type_fits n r ≡ true → twice r ≡ false → free before r ≡ true → type_right before r ≡ true
 right before n r long fits once alone =
-    and_true (type_fits (length before) r) (not (twice r) && free before r) (ap (λ k. type_fits k r) long ∙ fits) (and_true (not (twice r)) (free before r) (ap not once) alone)
+    and_from (type_fits (length before) r) (not (twice r) && free before r) (ap (λ k. type_fits k r) long ∙ fits) (and_from (not (twice r)) (free before r) (ap not once) alone)
 
 abbrev room : ℕ → ℕ → ℕ → Room
 room n m l = record { expressions = n; arms = m; bytes = l }
@@ -34,32 +38,29 @@ room n m l = record { expressions = n; arms = m; bytes = l }
 pub expressions-push : (n m l : ℕ) (es : List Expression) (e : Expression) → expressions_lawful n m l es ≡ true → expression_fits (room (n + length es) m l) e ≡ true → expressions_lawful n m l (es ++ (e ∷ [])) ≡ true
 expressions-push n m l [] e law fits =
     let z : n ≡ n + 0 = omega arith in
-    and_true (expression_fits (room n m l) e) true (ap (λ k. expression_fits (room k m l) e) z ∙ fits) refl
+    and_from (expression_fits (room n m l) e) true (ap (λ k. expression_fits (room k m l) e) z ∙ fits) refl
 expressions-push n m l (x ∷ es) e law fits =
-    let p = both (expression_fits (room n m l) x) (expressions_lawful (n + 1) m l es) law in
+    let p = and_parts (expression_fits (room n m l) x) (expressions_lawful (n + 1) m l es) law in
     let k : n + 1 + length es ≡ n + suc (length es) = omega arith in
-    and_true (expression_fits (room n m l) x) (expressions_lawful (n + 1) m l (es ++ (e ∷ []))) p.0 (expressions-push (n + 1) m l es e p.1 (ap (λ j. expression_fits (room j m l) e) k ∙ fits))
+    and_from (expression_fits (room n m l) x) (expressions_lawful (n + 1) m l (es ++ (e ∷ []))) p.0 (expressions-push (n + 1) m l es e p.1 (ap (λ j. expression_fits (room j m l) e) k ∙ fits))
 
-pub arms-push : (n : ℕ) (xs : List Arm) (x : Arm) → arms_lawful n xs ≡ true → arm_fits n x ≡ true → arms_lawful n (xs ++ (x ∷ [])) ≡ true
-arms-push n [] x law fits = and_true (arm_fits n x) true fits refl
-arms-push n (y ∷ xs) x law fits =
-    let p = both (arm_fits n y) (arms_lawful n xs) law in
-    and_true (arm_fits n y) (arms_lawful n (xs ++ (x ∷ []))) p.0 (arms-push n xs x p.1 fits)
+-- lists of which every element passes a test
 
-pub functions-push : (n : ℕ) (fs : List Function) (f : Function) → functions_lawful n fs ≡ true → function_right n f ≡ true → functions_lawful n (fs ++ (f ∷ [])) ≡ true
-functions-push n [] f law fits = and_true (function_right n f) true fits refl
-functions-push n (g ∷ fs) f law fits =
-    let p = both (function_right n g) (functions_lawful n fs) law in
-    and_true (function_right n g) (functions_lawful n (fs ++ (f ∷ []))) p.0 (functions-push n fs f p.1 fits)
+pub list_all-get_or : {X : Type 0} (p : X → Bool) (xs : List X) (i : ℕ) (d : X) → i < length xs → list_all p xs ≡ true → p (get_or xs i d) ≡ true
+list_all-get_or p xs i d lt law = All-get_or (λ x. p x ≡ true) xs i d lt (AllPass-from_list_all p xs law)
 
-pub functions-set : (n : ℕ) (fs : List Function) (f row : ℕ) → functions_lawful n fs ≡ true → ltb row n ≡ true → functions_lawful n (body_set fs f row) ≡ true
-functions-set n [] f row law there = refl
-functions-set n (g ∷ fs) zero row law there =
-    let p = both (function_right n g) (functions_lawful n fs) law in
-    and_true (function_right n (with_body g row)) (functions_lawful n fs) (and_true (function_fits g) (ltb row n) (both (function_fits g) (body_there n g.body) p.0).0 there) p.1
-functions-set n (g ∷ fs) (suc f) row law there =
-    let p = both (function_right n g) (functions_lawful n fs) law in
-    and_true (function_right n g) (functions_lawful n (body_set fs f row)) p.0 (functions-set n fs f row p.1 there)
+pub list_all-push : {X : Type 0} (p : X → Bool) (xs : List X) (x : X) → list_all p xs ≡ true → p x ≡ true → list_all p (xs ++ (x ∷ [])) ≡ true
+list_all-push p xs x law fits = list_all-from_AllPass p (xs ++ (x ∷ [])) (All-push (λ y. p y ≡ true) xs x (AllPass-from_list_all p xs law) fits)
+
+list_all-weaker : {X : Type 0} (p q : X → Bool) (xs : List X) → ((x : X) → p x ≡ true → q x ≡ true) → list_all p xs ≡ true → list_all q xs ≡ true
+list_all-weaker p q xs weaker law = list_all-from_AllPass q xs (All-weaker (λ x. p x ≡ true) (λ x. q x ≡ true) weaker xs (AllPass-from_list_all p xs law))
+
+pub functions-set : (n : ℕ) (fs : List Function) (f row : ℕ) → functions_lawful n fs ≡ true → f < length fs → ltb row n ≡ true → functions_lawful n (body_set fs f row) ≡ true
+functions-set n fs f row law lt there =
+    let g = get_or fs f no_function in
+    let fits = (and_parts (function_fits g) (body_there n g.body) (list_all-get_or (function_right n) fs f no_function lt law)).0 in
+    let right = and_from (function_fits g) (ltb row n) fits there in
+    list_all-from_AllPass (function_right n) (body_set fs f row) (All-set (λ x. function_right n x ≡ true) fs f (with_body g row) right (AllPass-from_list_all (function_right n) fs law))
 
 -- what is there stays there as more comes
 
@@ -86,9 +87,9 @@ expression-more n m l m2 l2 (If x y z) a b fits = fits
 expression-more n m l m2 l2 (Let x y) a b fits = fits
 expression-more n m l m2 l2 (For x y) a b fits = fits
 expression-more n m l m2 l2 (Match x i k y) a b fits =
-    let p = both (ltb x n) (ltb y n && arms_within i k m) fits in
-    let q = both (ltb y n) (arms_within i k m) p.1 in
-    and_true (ltb x n) (ltb y n && arms_within i k m2) p.0 (and_true (ltb y n) (arms_within i k m2) q.0 (arms_more (eqb k 0) i k m m2 a q.1))
+    let p = and_parts (ltb x n) (ltb y n && arms_within i k m) fits in
+    let q = and_parts (ltb y n) (arms_within i k m) p.1 in
+    and_from (ltb x n) (ltb y n && arms_within i k m2) p.0 (and_from (ltb y n) (arms_within i k m2) q.0 (arms_more (eqb k 0) i k m m2 a q.1))
 expression-more n m l m2 l2 (Call f x) a b fits = fits
 expression-more n m l m2 l2 (Add x y) a b fits = fits
 expression-more n m l m2 l2 (Equal x y) a b fits = fits
@@ -100,29 +101,25 @@ expression-more n m l m2 l2 (As x t) a b fits = fits
 pub expressions-more : (n m l m2 l2 : ℕ) (es : List Expression) → m ≤ m2 → l ≤ l2 → expressions_lawful n m l es ≡ true → expressions_lawful n m2 l2 es ≡ true
 expressions-more n m l m2 l2 [] a b law = refl
 expressions-more n m l m2 l2 (e ∷ es) a b law =
-    let p = both (expression_fits (room n m l) e) (expressions_lawful (n + 1) m l es) law in
-    and_true (expression_fits (room n m2 l2) e) (expressions_lawful (n + 1) m2 l2 es) (expression-more n m l m2 l2 e a b p.0) (expressions-more (n + 1) m l m2 l2 es a b p.1)
+    let p = and_parts (expression_fits (room n m l) e) (expressions_lawful (n + 1) m l es) law in
+    and_from (expression_fits (room n m2 l2) e) (expressions_lawful (n + 1) m2 l2 es) (expression-more n m l m2 l2 e a b p.0) (expressions-more (n + 1) m l m2 l2 es a b p.1)
 
 pub arms-grow : (n n2 : ℕ) (xs : List Arm) → n ≤ n2 → arms_lawful n xs ≡ true → arms_lawful n2 xs ≡ true
-arms-grow n n2 [] le law = refl
-arms-grow n n2 (x ∷ xs) le law =
-    let p = both (arm_fits n x) (arms_lawful n xs) law in
-    let q = both (pattern_fits x.pattern) (ltb x.body n) p.0 in
-    and_true (arm_fits n2 x) (arms_lawful n2 xs) (and_true (pattern_fits x.pattern) (ltb x.body n2) q.0 (ltb-more x.body n n2 le q.1)) (arms-grow n n2 xs le p.1)
+arms-grow n n2 xs le law = list_all-weaker (arm_fits n) (arm_fits n2) xs (λ x fits.
+    let q = and_parts (pattern_fits x.pattern) (ltb x.body n) fits in
+    and_from (pattern_fits x.pattern) (ltb x.body n2) q.0 (ltb-more x.body n n2 le q.1)) law
 
 body_grow : (n n2 : ℕ) (o : Option ℕ) → n ≤ n2 → body_there n o ≡ true → body_there n2 o ≡ true
 body_grow n n2 None le e = refl
 body_grow n n2 (Some row) le e = ltb-more row n n2 le e
 
 pub functions-grow : (n n2 : ℕ) (fs : List Function) → n ≤ n2 → functions_lawful n fs ≡ true → functions_lawful n2 fs ≡ true
-functions-grow n n2 [] le law = refl
-functions-grow n n2 (f ∷ fs) le law =
-    let p = both (function_right n f) (functions_lawful n fs) law in
-    let q = both (function_fits f) (body_there n f.body) p.0 in
-    and_true (function_right n2 f) (functions_lawful n2 fs) (and_true (function_fits f) (body_there n2 f.body) q.0 (body_grow n n2 f.body le q.1)) (functions-grow n n2 fs le p.1)
+functions-grow n n2 fs le law = list_all-weaker (function_right n) (function_right n2) fs (λ f right.
+    let q = and_parts (function_fits f) (body_there n f.body) right in
+    and_from (function_fits f) (body_there n2 f.body) q.0 (body_grow n n2 f.body le q.1)) law
 
 pub query-grow : (n n2 : ℕ) (o : Option Query) → n ≤ n2 → query_lawful n o ≡ true → query_lawful n2 o ≡ true
 query-grow n n2 None le e = refl
 query-grow n n2 (Some q) le e =
-    let p = both (ltb q.input 512) (ltb q.row n) e in
-    and_true (ltb q.input 512) (ltb q.row n2) p.0 (ltb-more q.row n n2 le p.1)
+    let p = and_parts (ltb q.input 512) (ltb q.row n) e in
+    and_from (ltb q.input 512) (ltb q.row n2) p.0 (ltb-more q.row n n2 le p.1)

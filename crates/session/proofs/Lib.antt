@@ -1,4 +1,4 @@
+pub mod Given
 pub mod Laws
-pub mod Counted
 pub mod Kept
 pub mod Marks

@@ -1,53 +1,36 @@
 -- The marks of a program's rows, and the tags among them.
-use Rattle.std.proofs.Common.{◌≡◌, ℕ, zero, suc, ◌+◌, ◌-◌, ◌<◌, ◌≤◌, Bool, true, false, cond, ◌||◌, eqb, ◌⊎◌, List, [], ◌∷◌, ◌++◌, map, length, get_or, take, drop, set, Some, None, Option, sym, refl, ap, ◌∙◌, inl, inr, append_assoc, le_of_suc-le-suc, not-suc-le-zero, arith, length-append, length-drop, length-set, take-append-drop, drop-set-lt, eq-eqb, eqb-true}
-use lib.ListN.{length-map}
-use Rattle.std.specs.Option.{option_to_list}
-use Rattle.std.proofs.lemmas.List.{get_or_append_left, get_or-append_right, get_or-map, get_or-take, get_or_past, length-take-le, at_drop_more, at_drop_all, take_more_set, drop_at, append-nil}
-use Rattle.rows.specs.declared.arm.Arm.{Arm}
-use Rattle.rows.specs.declared.expression.Expression.{Expression}
-use Rattle.rows.specs.Arms.{arm_tag}
-use Rattle.rows.specs.Expressions.{element_tag}
-use Rattle.session.specs.declared.program.Program.{Program}
-use Rattle.session.specs.Tables.{ProgramRows, program_rows}
+use Rattle.std.proofs.Common.{◌≡◌, ℕ, nat_eq, zero, suc, ◌<◌, ◌≤◌, Bool, true, false, not, cond, ◌||◌, eqb, ◌⊎◌, List, [], ◌∷◌, ◌++◌, length, get_or, drop, Some, None, Option, sym, refl, ap, ◌∙◌, inl, inr, MatchOption, le_of_suc-le-suc, not-suc-le-zero, arith, length-append, length-drop, eq-eqb, eqb-true}
+use Rattle.std.proofs.lemmas.Bool.{both_ways, or_cases, or_left, or_right}
+use Rattle.std.specs.Bool.{then_some}
+use Rattle.std.specs.List.{list_any}
+use Rattle.std.specs.Option.{option_to_list, option_eq}
+use Rattle.std.proofs.lemmas.List.{get_or_append_left, drop_at}
+use Rattle.session.specs.Tables.{ProgramRows}
 use Rattle.session.specs.Tags.{marks, is_tag, names, lasting, distinct, tag_count, ListsTags}
-use Rattle.session.proofs.Counted.{expressions-long, arms-long}
-use Rattle.session.proofs.Kept.{never, or_split, or_left, or_right}
 
-pub marks-long : (p : Program) → length (marks (program_rows p)) ≡ p.expressions.count + p.arms.count
-marks-long p =
-    let r = program_rows p in
-    omega (arith, length-append (map element_tag r.expressions) (map arm_tag r.arms), length-map r.expressions element_tag, length-map r.arms arm_tag, expressions-long p, arms-long p)
+-- a mark among the others names the tag
+pub list_any-names : (os : List (Option ℕ)) (t : ℕ) → list_any (λ o. option_eq nat_eq o (Some t)) os ≡ names os t
+list_any-names [] t = refl
+list_any-names (None ∷ os) t = list_any-names os t
+list_any-names (Some s ∷ os) t = ap (λ b. eqb s t || b) (list_any-names os t)
 
-pub mark_expression : (p : Program) (i : ℕ) (d : Expression) → i < p.expressions.count → get_or (marks (program_rows p)) i None ≡ element_tag (get_or p.expressions.rows i d)
-mark_expression p i d lt =
-    let es = (program_rows p).expressions in
-    let long : i < length es = omega (arith, expressions-long p) in
-    let mapped : i < length (map element_tag es) = omega (arith, length-map es element_tag) in
-    get_or_append_left (map element_tag es) (map arm_tag (program_rows p).arms) None i mapped ∙ get_or-map element_tag es i d None long ∙ ap element_tag (get_or-take p.expressions.count p.expressions.rows i d lt)
-
-behind : (p : Program) (i : ℕ) → p.expressions.count ≤ i → get_or (marks (program_rows p)) i None ≡ get_or (map arm_tag (program_rows p).arms) (i - p.expressions.count) None
-behind p i le =
-    let es = (program_rows p).expressions in
-    get_or-append_right (map element_tag es) (map arm_tag (program_rows p).arms) p.expressions.count i None (length-map es element_tag ∙ expressions-long p) le
-
-pub mark_arm : (p : Program) (i : ℕ) (d : Arm) → p.expressions.count ≤ i → i - p.expressions.count < p.arms.count → get_or (marks (program_rows p)) i None ≡ arm_tag (get_or p.arms.rows (i - p.expressions.count) d)
-mark_arm p i d le lt =
-    let xs = (program_rows p).arms in
-    let long : i - p.expressions.count < length xs = omega (arith, arms-long p) in
-    behind p i le ∙ get_or-map arm_tag xs (i - p.expressions.count) d None long ∙ ap arm_tag (get_or-take p.arms.count p.arms.rows (i - p.expressions.count) d lt)
-
-pub mark_none : (p : Program) (i : ℕ) → p.expressions.count ≤ i → p.arms.count ≤ i - p.expressions.count → get_or (marks (program_rows p)) i None ≡ None
-mark_none p i le past =
-    let xs = (program_rows p).arms in
-    behind p i le ∙ get_or_past (map arm_tag xs) (i - p.expressions.count) None (omega (arith, length-map xs arm_tag, arms-long p))
+-- the tag of a mark that passes a test which says that no other names it
+pub lasting-filter : {P : ℕ → Bool → Type 0} (os : List (Option ℕ)) (m r : Option ℕ) → ((t : ℕ) (b : Bool) → P t b → b ≡ not (list_any (λ o. option_eq nat_eq o (Some t)) os)) → MatchOption m (r ≡ None) (λ t. (b : Bool) × P t b × (r ≡ then_some b t)) → r ≡ lasting m os
+lasting-filter os None r test e = e
+lasting-filter os (Some t) r test (b, passed, e) =
+    e ∙ ap (λ x. then_some x t) (test t b passed ∙ ap not (list_any-names os t))
+    ∙ elim (names os t) as (λ x. then_some (not x) t ≡ cond x None (Some t)) [
+      | true ↦ refl
+      | false ↦ refl
+    ]
 
 -- a tag is named at some place
 
 named_in : (os : List (Option ℕ)) (t : ℕ) → names os t ≡ true → (i : ℕ) × (get_or os i None ≡ Some t)
-named_in [] t e = never false e refl
+named_in [] t e = cc
 named_in (None ∷ os) t e = let p = named_in os t e in (suc p.0, p.1)
 named_in (Some s ∷ os) t e =
-    elim (or_split (eqb s t) (names os t) e) [
+    elim (or_cases (eqb s t) (names os t) e) [
       | inl h ↦ (zero, ap (λ n. Some n) (eqb-true s t h))
       | inr h ↦ let p = named_in os t h in (suc p.0, p.1)
     ]
@@ -89,9 +72,9 @@ which s t os (inl e) = inl (eqb-true s t e)
 which s t os (inr h) = inr h
 
 all : (os : List (Option ℕ)) (t : ℕ) → names os t ≡ true → Found (distinct os) t
-all [] t e = never false e refl
+all [] t e = cc
 all (None ∷ os) t e = all os t e
-all (Some s ∷ os) t e = all-by (names os s) s t os refl (all os t) (which s t os (or_split (eqb s t) (names os t) e))
+all (Some s ∷ os) t e = all-by (names os s) s t os refl (all os t) (which s t os (or_cases (eqb s t) (names os t) e))
 
 abbrev Apart : List ℕ → Type 0
 Apart xs = (i j : ℕ) → i < length xs → j < length xs → get_or xs i 0 ≡ get_or xs j 0 → i ≡ j
@@ -99,8 +82,8 @@ Apart xs = (i j : ℕ) → i < length xs → j < length xs → get_or xs i 0 ≡
 once_by : (b : Bool) (t : ℕ) (os : List (Option ℕ)) → names os t ≡ b → Apart (distinct os) → Apart (step b t os)
 once_by true t os is rec i j li lj e = rec i j li lj e
 once_by false t os is rec zero zero li lj e = refl
-once_by false t os is rec zero (suc j) li lj e = never (names os t) (ap (names os) e ∙ each os j (le_of_suc-le-suc lj)) is
-once_by false t os is rec (suc i) zero li lj e = never (names os t) (ap (names os) (sym e) ∙ each os i (le_of_suc-le-suc li)) is
+once_by false t os is rec zero (suc j) li lj e = absurd (both_ways (names os t) is (ap (names os) e ∙ each os j (le_of_suc-le-suc lj)))
+once_by false t os is rec (suc i) zero li lj e = absurd (both_ways (names os t) is (ap (names os) (sym e) ∙ each os i (le_of_suc-le-suc li)))
 once_by false t os is rec (suc i) (suc j) li lj e = ap suc (rec i j (le_of_suc-le-suc li) (le_of_suc-le-suc lj) e)
 
 once : (os : List (Option ℕ)) → Apart (distinct os)
@@ -123,50 +106,3 @@ lists p n before after is le eq =
       once = λ i j li lj e. let hi : i < length ds = omega arith in let hj : j < length ds = omega arith in once os i j hi hj (sym (front i hi) ∙ e ∙ front j hj);
       rest = ap (drop n) eq ∙ drop_at ds (drop n before) n (sym is);
     }
-
--- one turn of a loop over the marks
-
-pub named_step : (os : List (Option ℕ)) (i t : ℕ) (b : Bool) → i < length os → is_tag (get_or os i None) t ≡ b → names (drop i os) t ≡ (b || names (drop (i + 1) os) t)
-named_step os i t b lt is = at_drop_more (λ (xs : List (Option ℕ)). names xs t) os i None lt ∙ ap (λ x. x || names (drop (i + 1) os) t) is
-
-pub distinct-step : (os : List (Option ℕ)) (i : ℕ) (o : Option ℕ) → i < length os → o ≡ lasting (get_or os i None) (drop (i + 1) os) → distinct (drop i os) ≡ option_to_list o ++ distinct (drop (i + 1) os)
-distinct-step os i o lt is = at_drop_more distinct os i None lt ∙ ap (λ x. option_to_list x ++ distinct (drop (i + 1) os)) (sym is)
-
-pub at_most_one : (o : Option ℕ) → length (option_to_list o) ≤ 1
-at_most_one None = omega arith
-at_most_one (Some t) = omega arith
-
-pub distinct-few : (os : List (Option ℕ)) → length (distinct os) ≤ length os
-distinct-few [] = omega arith
-distinct-few (o ∷ os) = omega (arith, length-append (option_to_list (lasting o os)) (distinct os), at_most_one (lasting o os), distinct-few os)
-
--- so many tags are written, those that last of the first i marks, and nothing behind them
-abbrev pub Written : List (Option ℕ) → ℕ → List ℕ → ℕ → List ℕ → Type 0
-Written os i start n list = (take n list ++ distinct (drop i os) ≡ distinct os) × (n ≤ length list) × ((k : ℕ) → n ≤ k → drop k list ≡ drop k start)
-
-written_count : (os : List (Option ℕ)) (i : ℕ) (start : List ℕ) (n : ℕ) (list : List ℕ) → Written os i start n list → n + length (distinct (drop i os)) ≡ length (distinct os)
-written_count os i start n list (front, le, rest) = omega (arith, ap length front, length-append (take n list) (distinct (drop i os)), length-take-le n list le)
-
-pub written-room : (os : List (Option ℕ)) (i : ℕ) (start : List ℕ) (n : ℕ) (list : List ℕ) (t : ℕ) → Written os i start n list → i < length os → Some t ≡ lasting (get_or os i None) (drop (i + 1) os) → length (distinct os) ≤ length list → n < length list
-written-room os i start n list t wr lt is fits =
-    let a = written_count os i start n list wr in
-    let b = ap length (distinct-step os i (Some t) lt is) in
-    omega arith
-
-pub written-some : (os : List (Option ℕ)) (i : ℕ) (start : List ℕ) (n : ℕ) (list : List ℕ) (t : ℕ) → Written os i start n list → i < length os → Some t ≡ lasting (get_or os i None) (drop (i + 1) os) → n < length list → Written os (i + 1) start (n + 1) (set list n t)
-written-some os i start n list t (front, le, rest) lt is room = (
-  ap (λ xs. xs ++ distinct (drop (i + 1) os)) (take_more_set list n t room) ∙ append_assoc (take n list) (t ∷ []) (distinct (drop (i + 1) os)) ∙ ap (λ xs. take n list ++ xs) (sym (distinct-step os i (Some t) lt is)) ∙ front,
-  omega (arith, length-set list n t),
-  λ k more. drop-set-lt k list n t (omega arith) ∙ rest k (omega arith),
-)
-
-pub written_none : (os : List (Option ℕ)) (i : ℕ) (start : List ℕ) (n : ℕ) (list : List ℕ) → Written os i start n list → i < length os → None ≡ lasting (get_or os i None) (drop (i + 1) os) → Written os (i + 1) start n list
-written_none os i start n list (front, le, rest) lt is = (ap (λ xs. take n list ++ xs) (sym (distinct-step os i None lt is)) ∙ front, le, rest)
-
-pub written_all : (os : List (Option ℕ)) (i : ℕ) (start : List ℕ) (n : ℕ) (list : List ℕ) → Written os i start n list → length os ≤ i → (n ≡ length (distinct os)) × (list ≡ distinct os ++ drop n start)
-written_all os i start n list (front, le, rest) past =
-    let none = at_drop_all (λ (xs : List (Option ℕ)). distinct xs) os i past in
-    let whole = sym (append-nil (take n list)) ∙ ap (λ xs. take n list ++ xs) (sym none) ∙ front in (
-      omega (arith, ap length whole, length-take-le n list le),
-      sym (take-append-drop n list) ∙ ap (λ xs. xs ++ drop n list) whole ∙ ap (λ xs. distinct os ++ xs) (rest n (omega arith)),
-    )

@@ -27,10 +27,10 @@ pub record ProgramRows : Type 0 where
 
 abbrev pub program_rows : Program → ProgramRows
 program_rows p = record {
-  expressions = take p.expressions.count p.expressions.rows;
-  arms = take p.arms.count p.arms.rows;
-  functions = take p.functions.count p.functions.rows;
-  text = take p.text.count p.text.bytes;
+  expressions = p.expressions.items;
+  arms = p.arms.items;
+  functions = p.functions.rows.items;
+  text = p.text.items;
   query = p.query;
 }
 

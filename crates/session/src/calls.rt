@@ -1,4 +1,4 @@
-ghost use Rattle.std.specs.Prelude.{◌≡◌, length, Ok, Err};
+ghost use Rattle.std.specs.Prelude.{◌≡◌, cond, length, Ok, Err};
 ghost use Rattle.forest.specs.Faults.{faulted};
 ghost use Rattle.session.specs.Lawful.{Lawful};
 ghost use Rattle.session.specs.Calls.{tables, empty_tables, settled, add_text, add_type, add_function, add_arm, add_expression, set_body, set_query, clear, applied, answered};
@@ -7,16 +7,18 @@ use crate::program::Program;
 use crate::session::{Phase, Session};
 use crate::type_table::TypeTable;
 use forest::{Fault, Reason};
-use rows::{Arm, EXPRESSIONS, Expression, FUNCTIONS, Function, Pattern, Query, TYPE_ROWS, TypeRow};
+use rows::{
+    Arm, EXPRESSIONS, Expression, FUNCTIONS, Function, Query, RawArm, RawExpression, RawType,
+    TYPE_ROWS, TypeRow,
+};
 
 const SESSION: u8 = 1;
 
 const ARMS: u32 = 128;
 
-const BYTES: usize = 4096;
-
-/// A call that was accepted.
-#[derive(Clone, Copy)]
+/// A call that was accepted. The project asks that one match, on it and on how the session stands, decide what the call drops; so
+/// calls that drop the same have names of their own here.
+#[derive(Clone, Copy, PartialEq, Eq, Debug)]
 pub(crate) enum Accepted {
     Add,
     Body,
@@ -49,31 +51,23 @@ impl Session {
         ensures { (result, tables self.new) ≡ applied (tables self.old) (add_text text.now) }
     {
         let place = self.program.room().bytes;
-        if text.len() > BYTES - place as usize {
-            return Err(refusal(Reason::TableFull, place));
-        }
-        self.program.push_text(text);
+        self.program
+            .push_text(text)
+            .map_err(|_| refusal(Reason::TableFull, place))?;
         self.settle(Accepted::Add);
         Ok(place)
     }
 
     /// Declares a type row.
-    pub fn add_type(&mut self, kind: u8, a: u32, b: u32) -> Result<u32, Fault>
-        ensures { (result, tables self.new) ≡ applied (tables self.old) (add_type kind a b) }
+    pub fn add_type(&mut self, row: RawType) -> Result<u32, Fault>
+        ensures { (result, tables self.new) ≡ applied (tables self.old) (add_type row) }
     {
         let place = self.types.declared();
-        if place >= TYPE_ROWS {
-            return Err(refusal(Reason::TableFull, place));
-        }
-        let Some(row) = TypeRow::from_numbers(kind, a, b) else {
-            return Err(refusal(Reason::FieldOutOfRange, place));
-        };
-        if !row.fits(place) {
-            return Err(refusal(Reason::FieldOutOfRange, place));
-        }
-        if row.names_twice() || !self.types.is_free(row) {
-            return Err(refusal(Reason::PartTaken, place));
-        }
+        allow(place < TYPE_ROWS, Reason::TableFull, place)?;
+        let row = TypeRow::try_from(row).map_err(|reason| refusal(reason, place))?;
+        allow(row.fits(place), Reason::FieldOutOfRange, place)?;
+        allow(!row.names_twice(), Reason::PartTaken, place)?;
+        allow(self.types.is_free(row), Reason::PartTaken, place)?;
         self.types.push(row);
         self.settle(Accepted::Add);
         Ok(place)
@@ -84,58 +78,41 @@ impl Session {
         ensures { (result, tables self.new) ≡ applied (tables self.old) (add_function parameter result_type) }
     {
         let place = self.program.function_count();
-        if place >= FUNCTIONS {
-            return Err(refusal(Reason::TableFull, place));
-        }
+        allow(place < FUNCTIONS, Reason::TableFull, place)?;
         let function = Function {
             parameter,
             result: result_type,
             body: None,
         };
-        if !function.fits() {
-            return Err(refusal(Reason::FieldOutOfRange, place));
-        }
+        allow(function.fits(), Reason::FieldOutOfRange, place)?;
         self.program.push_function(function);
         self.settle(Accepted::Add);
         Ok(place)
     }
 
     /// Adds an arm.
-    pub fn add_arm(&mut self, kind: u8, tag: u32, body: u32) -> Result<u32, Fault>
-        ensures { (result, tables self.new) ≡ applied (tables self.old) (add_arm kind tag body) }
+    pub fn add_arm(&mut self, arm: RawArm) -> Result<u32, Fault>
+        ensures { (result, tables self.new) ≡ applied (tables self.old) (add_arm arm) }
     {
         let room = self.program.room();
         let place = room.arms;
-        if place >= ARMS {
-            return Err(refusal(Reason::TableFull, place));
-        }
-        let Some(pattern) = Pattern::from_numbers(kind, tag) else {
-            return Err(refusal(Reason::FieldOutOfRange, place));
-        };
-        let arm = Arm { pattern, body };
-        if !arm.fits(room.expressions) {
-            return Err(refusal(Reason::FieldOutOfRange, place));
-        }
+        allow(place < ARMS, Reason::TableFull, place)?;
+        let arm = Arm::try_from(arm).map_err(|reason| refusal(reason, place))?;
+        allow(arm.fits(room.expressions), Reason::FieldOutOfRange, place)?;
         self.program.push_arm(arm);
         self.settle(Accepted::Add);
         Ok(place)
     }
 
     /// Adds an expression.
-    pub fn add_expression(&mut self, kind: u8, a: i64, b: u32, c: u32, d: u32) -> Result<u32, Fault>
-        ensures { (result, tables self.new) ≡ applied (tables self.old) (add_expression kind a b c d) }
+    pub fn add_expression(&mut self, row: RawExpression) -> Result<u32, Fault>
+        ensures { (result, tables self.new) ≡ applied (tables self.old) (add_expression row) }
     {
         let room = self.program.room();
         let place = room.expressions;
-        if place >= EXPRESSIONS {
-            return Err(refusal(Reason::TableFull, place));
-        }
-        let Some(row) = Expression::from_numbers(kind, a, b, c, d) else {
-            return Err(refusal(Reason::FieldOutOfRange, place));
-        };
-        if !row.fits(room) {
-            return Err(refusal(Reason::FieldOutOfRange, place));
-        }
+        allow(place < EXPRESSIONS, Reason::TableFull, place)?;
+        let row = Expression::try_from(row).map_err(|reason| refusal(reason, place))?;
+        allow(row.fits(room), Reason::FieldOutOfRange, place)?;
         self.program.push_expression(row);
         self.settle(Accepted::Add);
         Ok(place)
@@ -145,22 +122,23 @@ impl Session {
     pub fn set_body(&mut self, function: u32, row: u32) -> Result<(), Fault>
         ensures { (answered result, tables self.new) ≡ applied (tables self.old) (set_body function row) }
     {
-        if function >= self.program.function_count() || row >= self.program.room().expressions {
-            return Err(refusal(Reason::FieldOutOfRange, 0));
-        }
+        let there = function < self.program.function_count()
+            && row < self.program.room().expressions;
+        allow(there, Reason::FieldOutOfRange, 0)?;
         self.program.set_body(function, row);
         self.settle(Accepted::Body);
         Ok(())
     }
 
     /// Sets the query, in place of the one that there was.
-    pub fn set_query(&mut self, input: u32, row: u32) -> Result<(), Fault>
-        ensures { (answered result, tables self.new) ≡ applied (tables self.old) (set_query input row) }
+    pub fn set_query(&mut self, query: Query) -> Result<(), Fault>
+        ensures { (answered result, tables self.new) ≡ applied (tables self.old) (set_query query) }
     {
-        let query = Query { input, row };
-        if !query.fits(self.program.room().expressions) {
-            return Err(refusal(Reason::FieldOutOfRange, 0));
-        }
+        allow(
+            query.fits(self.program.room().expressions),
+            Reason::FieldOutOfRange,
+            0,
+        )?;
         self.program.set_query(query);
         self.settle(Accepted::Query);
         Ok(())
@@ -192,13 +170,20 @@ impl Session {
     }
 }
 
-/// A refusal by the session, at the place that an add would fill.
-pub(crate) fn refusal(reason: Reason, row: u32) -> Fault
+/// Refuses what the rules do not allow.
+pub(crate) fn allow(allowed: bool, reason: Reason, row: u32) -> Result<(), Fault>
+    ensures { result ≡ cond allowed (Ok tt) (Err (faulted reason 1 row)) }
+{
+    if allowed {
+        Ok(())
+    } else {
+        Err(refusal(reason, row))
+    }
+}
+
+/// A refusal by the session, at a row.
+fn refusal(reason: Reason, row: u32) -> Fault
     ensures { result ≡ faulted reason 1 row }
 {
-    Fault {
-        reason,
-        layer: SESSION,
-        row,
-    }
+    Fault::new(reason, SESSION, row)
 }

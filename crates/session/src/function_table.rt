@@ -1,32 +1,29 @@
-ghost use Rattle.std.specs.Prelude.{◌≡◌, ◌+◌, ◌<◌, ◌≤◌, [], ◌∷◌, ◌++◌, length, take};
+ghost use Rattle.std.specs.Prelude.{◌≡◌, ◌<◌, ◌≤◌, [], ◌∷◌, ◌++◌, length};
 ghost use Rattle.session.specs.Bodies.{body_set};
 
+use arrayvec::ArrayVec;
 use rows::Function;
 
-/// The functions.
+/// The functions. They are a table of their own: setting a body is a call of this table alone, so that no other part of a session can
+/// change with it. The project asks for that form.
 #[derive(Drop)]
 pub struct FunctionTable {
-    pub(crate) rows: [Function; 32],
-    pub(crate) count: u32,
-    ghost long: { length rows ≡ 32 },
-    ghost few: { count ≤ 32 },
+    pub(crate) rows: ArrayVec<Function, 32>,
+    ghost few: { length rows.items ≤ 32 },
 }
 
 impl FunctionTable {
     pub(crate) fn push(&mut self, row: Function)
-        requires { self.old.count < 32 }
-        ensures count { self.new.count ≡ self.old.count + 1 }
-        ensures rows { take self.new.count self.new.rows ≡ take self.old.count self.old.rows ++ (row ∷ []) }
+        requires { length self.old.rows.items < 32 }
+        ensures { self.new.rows.items ≡ self.old.rows.items ++ (row ∷ []) }
     {
-        self.rows[self.count as usize] = row;
-        self.count += 1;
+        self.rows.push(row);
     }
 
     /// Sets the body of one function; every other function stays.
     pub(crate) fn set_body(&mut self, function: u32, row: u32)
-        requires { function < self.old.count }
-        ensures count { self.new.count ≡ self.old.count }
-        ensures rows { take self.new.count self.new.rows ≡ body_set (take self.old.count self.old.rows) function row }
+        requires { function < length self.old.rows.items }
+        ensures { self.new.rows.items ≡ body_set self.old.rows.items function row }
     {
         self.rows[function as usize].body = Some(row);
     }

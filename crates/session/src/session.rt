@@ -2,7 +2,7 @@ use crate::program::Program;
 use crate::type_table::TypeTable;
 
 /// Whether a check stands, with the type rows that it made behind the declared ones.
-#[derive(Clone, Copy)]
+#[derive(Clone, Copy, PartialEq, Eq, Debug)]
 pub enum Phase {
     Open,
     Checked,

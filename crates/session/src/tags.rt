@@ -1,15 +1,18 @@
-ghost use Rattle.std.specs.Prelude.{◌≡◌, ◌+◌, ◌<◌, ◌≤◌, ◌++◌, length, drop, None, MatchResult, slice_index_or};
-ghost use Rattle.std.specs.Option.{option_to_list};
+ghost use Rattle.std.specs.Prelude.{◌≡◌, ◌<◌, ◌≤◌, length, MatchResult};
 ghost use Rattle.forest.specs.Faults.{faulted};
 ghost use Rattle.forest.specs.declared.fault.Reason.TheVariants.{BufferShort};
 ghost use Rattle.session.specs.Tables.{program_rows};
 ghost use Rattle.session.specs.Calls.{tables};
-ghost use Rattle.session.specs.Tags.{marks, is_tag, names, lasting, distinct, tag_count, ListsTags};
+ghost use Rattle.session.specs.Tags.{marks, lasting, distinct, tag_count, ListsTags};
 
-use crate::calls::refusal;
+use crate::calls::allow;
 use crate::program::Program;
 use crate::session::Session;
+use arrayvec::ArrayVec;
 use forest::{Fault, Reason};
+
+/// All expressions and arms that a session can have, 512 and 128: no program names more tags.
+const MARKS: usize = 640;
 
 impl Session {
     /// Lists each tag that an element expression or an arm names, once, and answers how many there are. A list that is too short
@@ -17,105 +20,50 @@ impl Session {
     pub fn tags(&self, list: &mut [u32]) -> Result<u32, Fault>
         ensures { MatchResult result (λ n. ListsTags (tables self.now).program n list.old list.new) (λ e. (e ≡ faulted BufferShort 1 0) × (list.new ≡ list.old) × (length list.old < tag_count (tables self.now).program)) }
     {
-        if self.program.tag_count() > list.len() {
-            return Err(refusal(Reason::BufferShort, 0));
-        }
-        Ok(self.program.write_tags(list))
+        let marks = self.program.marks();
+        let tags = distinct(marks.as_slice());
+        let count = tags.len();
+        allow(count <= list.len(), Reason::BufferShort, 0)?;
+        list[..count].copy_from_slice(tags.as_slice());
+        Ok(count as u32)
     }
 }
 
-/// Tags by the marks of the rows: first those of the expressions, then those of the arms.
 impl Program {
-    fn mark_count(&self) -> usize
-        ensures long { result ≡ length (marks (program_rows self.now)) }
-        ensures few { result ≤ 640 }
+    /// The tags that the expressions and the arms name, row by row.
+    fn marks(&self) -> ArrayVec<Option<u32>, MARKS>
+        ensures { result.items ≡ marks (program_rows self.now) }
     {
-        self.expressions.count as usize + self.arms.count as usize
-    }
-
-    /// The tag that a row names.
-    fn mark(&self, index: usize) -> Option<u32>
-        ensures { result ≡ slice_index_or (marks (program_rows self.now)) index None }
-    {
-        let expressions = self.expressions.count as usize;
-        if index < expressions {
-            return self.expressions.rows[index].tag();
+        let mut marks = ArrayVec::new();
+        for row in self.expressions.as_slice() {
+            marks.push(row.tag());
         }
-        let arm = index - expressions;
-        if arm < self.arms.count as usize {
-            return self.arms.rows[arm].tag();
+        for arm in self.arms.as_slice() {
+            marks.push(arm.tag());
         }
-        None
-    }
-
-    /// Whether a row from a place on names the tag.
-    fn is_named_from(&self, from: usize, tag: u32) -> bool
-        ensures { result ≡ names (drop from (marks (program_rows self.now))) tag }
-    {
-        for index in from..self.mark_count() {
-            if is_tag(self.mark(index), tag) {
-                return true;
-            }
-        }
-        false
-    }
-
-    /// The tag that a row names, if no later row names it.
-    fn last_mark(&self, index: usize) -> Option<u32>
-        requires { index < 640 }
-        ensures { result ≡ lasting (slice_index_or (marks (program_rows self.now)) index None) (drop (index + 1) (marks (program_rows self.now))) }
-    {
-        match self.mark(index) {
-            Some(tag) => (!self.is_named_from(index + 1, tag)).then_some(tag),
-            None => None,
-        }
-    }
-
-    fn tag_count(&self) -> usize
-        ensures { result ≡ tag_count (program_rows self.now) }
-    {
-        let mut count = 0;
-        for index in 0..self.mark_count() {
-            count += number(self.last_mark(index));
-        }
-        count
-    }
-
-    /// Writes the tags into a list that has room for them.
-    fn write_tags(&self, list: &mut [u32]) -> u32
-        requires { tag_count (program_rows self.now) ≤ length list.old }
-        ensures number { result ≡ tag_count (program_rows self.now) }
-        ensures list { list.new ≡ distinct (marks (program_rows self.now)) ++ drop result list.old }
-    {
-        let mut count = 0;
-        for index in 0..self.mark_count() {
-            match self.last_mark(index) {
-                Some(tag) => {
-                    list[count] = tag;
-                    count += 1;
-                }
-                None => {}
-            }
-        }
-        count as u32
+        marks
     }
 }
 
-/// One tag, or none.
-fn number(mark: Option<u32>) -> usize
-    ensures { result ≡ length (option_to_list mark) }
+/// Each tag of the marks, once.
+fn distinct(marks: &[Option<u32>]) -> ArrayVec<u32, MARKS>
+    requires { length marks.now ≤ MARKS }
+    ensures { result.items ≡ distinct marks.now }
 {
-    match mark {
-        Some(_) => 1,
-        None => 0,
+    let mut tags = ArrayVec::new();
+    let mut rest = marks;
+    while let [mark, later @ ..] = rest {
+        if let Some(tag) = lasting(*mark, later) {
+            tags.push(tag);
+        }
+        rest = later;
     }
+    tags
 }
 
-fn is_tag(mark: Option<u32>, tag: u32) -> bool
-    ensures { result ≡ is_tag mark tag }
+/// The tag of a mark that no later mark names.
+fn lasting(mark: Option<u32>, later: &[Option<u32>]) -> Option<u32>
+    ensures { result ≡ lasting mark later.now }
 {
-    match mark {
-        Some(named) => named == tag,
-        None => false,
-    }
+    mark.filter(|tag| !later.contains(&Some(*tag)))
 }

@@ -1,8 +1,10 @@
 -- A tree that was made is there to be read.
-use Rattle.std.proofs.Common.{◌≡◌, ℕ, ◌<◌, ◌&&◌, List, [], ◌∷◌, ◌++◌, map, length, get_or, ℤ, pos, Ok, Option, Result, sym, ap, ◌∙◌, arith}
+use Rattle.std.proofs.Common.{◌≡◌, ℕ, ◌<◌, ◌&&◌, List, [], ◌∷◌, ◌++◌, map, length, get_or, ℤ, pos, Some, Ok, Option, Result, sym, ap, ◌∙◌, arith}
+use lib.ListN.{length-map}
 use Rattle.std.proofs.lemmas.List.{length_push}
+use Rattle.std.proofs.lemmas.Option.{slice_get-get_or}
 use Rattle.forest.specs.declared.fault.Fault.{Fault}
-use Rattle.forest.specs.declared.kind.Kind.TheVariants.{Absent, Element}
+use Rattle.forest.specs.declared.kind.Kind.TheVariants.{Element}
 use Rattle.forest.specs.Forests.{Item, scalar, element, integer, forest, integer_lawful, tag_lawful}
 use Rattle.forest.specs.Stores.{Meaning, make, asked_integer, asked_element, picked, all_below, item_kind, item_tag, item_children, item_value, kind_at, tag_at, children_at}
 use Rattle.forest.proofs.Items.{items-forest}
@@ -20,8 +22,11 @@ module _ (l : ℕ) (m n : Meaning) (t : ℕ) (hs : List ℕ) (h : ℕ) (e : ◌�
       let s = success l (asked_element m.trees t hs) m n h e in
       new-reads f d _ _ m n h s (sym (when-is (tag_lawful t && all_below (length m.trees) hs) _ s.item s.asked).1)
 
-  pub kind-back : kind_at n.trees h ≡ Element
-  kind-back = back item_kind Absent
+  pub kind-back : kind_at n.trees h ≡ Some Element
+  kind-back =
+      let s = success l (asked_element m.trees t hs) m n h e in
+      let there : h < length (map item_kind n.trees) = omega (arith, s.handle, length-map n.trees item_kind, ap (λ k. length k.trees) s.after, length_push m.trees s.item) in
+      slice_get-get_or (map item_kind n.trees) h Element there ∙ ap Some (back item_kind Element)
 
   pub tag_back : tag_at n.trees h ≡ t
   tag_back = back item_tag 0

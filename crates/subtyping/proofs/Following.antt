@@ -1,23 +1,19 @@
 -- What looking at one pair puts, and what it shows.
-use Rattle.std.proofs.Common.{◌≡◌, ℕ, ◌+◌, ◌/◌, ◌%◌, ◌<◌, ◌≤◌, Bool, true, false, cond, Some, sym, refl, ap, ◌∙◌, subst, inl, inr, arith}
+use Rattle.std.proofs.Common.{◌≡◌, ℕ, ◌+◌, ◌/◌, ◌%◌, ◌<◌, ◌≤◌, Bool, true, false, ◌&&◌, List, [], ◌∷◌, Some, sym, refl, ap, ◌∙◌, subst, inl, inr, arith}
 use native.Mathlib.Decide.{ℕ_discrete}
-use Rattle.bits.proofs.Laws.{bit-within}
-use Rattle.std.proofs.lemmas.Bool.{lt-ltb, le-ltb}
+use Rattle.bits.proofs.RowItems.{row_front, row_empty}
+use Rattle.std.proofs.lemmas.Bool.{and_from, and_parts, cases_lt, cases_order, false_from_ne_true, false≢true}
 use Rattle.types.specs.Parts.{row, content}
-use Rattle.types.proofs.Rules.{order}
 use Rattle.positions.specs.declared.tables.Positions.{Positions}
-use Rattle.positions.specs.declared.tables.Moves.{Moves}
+use Rattle.positions.specs.declared.moves.Moves.{Moves}
+use Rattle.positions.specs.Below.{flag}
 use Rattle.positions.specs.Built.{types_of}
+use Rattle.subtyping.specs.declared.pairs.Pair.{Pair}
 use Rattle.subtyping.specs.declared.pairs.Pairs.{Pairs}
-use Rattle.bits.specs.Bits.{bit}
-use Rattle.bits.specs.Bits.{Next as Bit-next}
-use Rattle.subtyping.specs.Worklist.{Visited, Held, Fresh, Grown, Put, Taken, load}
-use Rattle.positions.specs.Finding.{FirstOf}
-use Rattle.subtyping.specs.Comparison.{pair, behind_item, right_place, Goes, Answers, Leads, on, into, Steps, step, Answered, AllAnswered, Expanded, all_answered, one_unanswered, moves_at, ends_alike, Passes, no_answer, Looked, passed, failed, Reached, first, more, Verdict, alike, unlike}
-use Rattle.subtyping.proofs.Growing.{grown-twice, unchanged}
-
-never : {A : Type 0} → false ≡ true → A
-never e = let z : ◌≡◌ {A = ℕ} 0 1 = cc in absurd (omega arith)
+use Rattle.bits.specs.Bits.{bit, row_items}
+use Rattle.subtyping.specs.Worklist.{pair, number, Visited, Waiting, Fresh, Grown, Put, Taken, Popped, load}
+use Rattle.subtyping.specs.Comparison.{behind_item, right_place, Goes, Answers, Leads, on, into, Steps, step, Answered, AllAnswered, Expanded, all_answered, one_unanswered, moves_at, ends_alike, Passes, no_answer, Looked, passed, failed, Reached, first, more, Verdict, alike, unlike}
+use Rattle.subtyping.proofs.Growing.{grown-twice, grown-within, unchanged}
 
 -- an item and its answer, both with contents
 pub leads-both : (p : Positions) (left n m c d : ℕ) {old q new : Pairs} → content (row (types_of p) n) ≡ Some c → content (row (types_of p) m) ≡ Some d
@@ -30,69 +26,99 @@ leads-both p left n m c d {old} {q} {new} i j g h = record { grown = grown-twice
 
 -- THE ITEMS OF ONE PAIR
 
-pub record Along (p : Positions) (moves : Moves) (left right : ℕ) (old q : Pairs) (item : ℕ) : Type 0 where
-  pub grown : Grown old q (Steps p moves left right item)
-  pub answered : AllAnswered p moves (Visited q) left right item
-  pub within : item ≤ 512
-  pub here : item < 512 → Goes p moves (left % 1024) item
+-- the items that are left are those from `at` on, and those before that go are answered
+pub record Along (p : Positions) (moves : Moves) (left right : ℕ) (old q : Pairs) (ahead : List ℕ) : Type 0 where
+  pub at : ℕ
+  pub rest : ahead ≡ row_items moves.next.words (left % 1024) at
+  pub within : at ≤ 512
+  pub grown : Grown old q (Steps p moves left right at)
+  pub answered : AllAnswered p moves (Visited q) left right at
 
 still-answered : {p : Positions} {left right n : ℕ} {old q : Pairs} {P : ℕ → Type 0} → Grown old q P → Answered p (Visited old) left right n → Answered p (Visited q) left right n
 still-answered g a = record { by = a.by; answers = a.answers; leads = λ x l. g.still x (a.leads x l) }
 
 module _ {p : Positions} {moves : Moves} {left right : ℕ} where
-  pub along_start : {old : Pairs} {item : ℕ} → Held old → FirstOf (Goes p moves (left % 1024)) 0 item → Along p moves left right old old item
-  along_start {old} {item} h f = record { grown = unchanged old (Steps p moves left right item) h; answered = λ n lt g. absurd (f.passed n (omega arith) lt g); within = f.within; here = f.here }
+  pub along_start : {old : Pairs} {ahead : List ℕ} → ahead ≡ row_items moves.next.words (left % 1024) 0 → Along p moves left right old old ahead
+  along_start {old} e = record { at = 0; rest = e; within = omega arith; grown = unchanged old (Steps p moves left right 0); answered = λ n lt g. absurd (omega arith) }
 
   later : {end item : ℕ} → end ≤ item → (x : ℕ) → Steps p moves left right end x → Steps p moves left right item x
   later le x (step lt g a l) = step (omega arith) g a l
 
-  pub along_on : {old q new : Pairs} {item next m : ℕ} → item < 512 → Along p moves left right old q item → Answers p (right_place left right) item m → Put q new (Leads p left item m)
-      → FirstOf (Goes p moves (left % 1024)) (item + 1) next → Along p moves left right old new next
-  along_on {old} {q} {new} {item} {next} {m} lt a w g f =
-      record { grown = grown; answered = all; within = f.within; here = f.here }
-    where
-      beyond : item < next
-      beyond = elim (order next 512) [ inl h ↦ (let x = f.after h in omega arith) | inr (inl e) ↦ omega arith | inr (inr h) ↦ (let x = f.within in omega arith) ]
+  pub along_item : {old q : Pairs} {ahead rest : List ℕ} {item : ℕ} → Along p moves left right old q ahead → ahead ≡ item ∷ rest → item < 512
+  along_item {rest = rest} {item} a e = let f = row_front moves.next.words (left % 1024) a.at item rest (sym a.rest ∙ e) in f.0.below
 
-      grown : Grown old new (Steps p moves left right next)
-      grown = grown-twice a.grown g.grown (later (omega (arith, beyond))) (λ x l. step beyond (a.here lt) w l)
+  goes : {old q : Pairs} {ahead rest : List ℕ} {item : ℕ} → Along p moves left right old q ahead → ahead ≡ item ∷ rest → flag moves.live.marks item && flag p.alive.marks item ≡ true → Goes p moves (left % 1024) item
+  goes {rest = rest} {item} a e t =
+      let f = row_front moves.next.words (left % 1024) a.at item rest (sym a.rest ∙ e) in
+      let o = and_parts (flag moves.live.marks item) (flag p.alive.marks item) t in
+      record { inside = f.0.below; next = f.0.here; live = o.0; alive = o.1 }
 
-      all : AllAnswered p moves (Visited new) left right next
-      all n h y = elim (order n item) [
-        | inl below ↦ still-answered g.grown (a.answered n below y)
-        | inr (inl e) ↦ subst (λ z. Answered p (Visited new) left right z) (sym e) (record { by = m; answers = w; leads = λ x l. g.all x l })
-        | inr (inr above) ↦ absurd (f.passed n (omega arith) h y)
-      ]
+  -- an item that goes and is answered
+  pub along_on : {old q new : Pairs} {ahead rest : List ℕ} {item m : ℕ} → Along p moves left right old q ahead → ahead ≡ item ∷ rest → flag moves.live.marks item && flag p.alive.marks item ≡ true
+      → Answers p (right_place left right) item m → Put q new (Leads p left item m) → Along p moves left right old new rest
+  along_on {old} {q} {new} {rest = rest} {item} {m} a e t w g =
+      let f = row_front moves.next.words (left % 1024) a.at item rest (sym a.rest ∙ e) in
+      let low = f.0.low in
+      let below = f.0.below in
+      let y = goes a e t in
+      record {
+        at = item + 1;
+        rest = f.1;
+        within = omega arith;
+        grown = grown-twice a.grown g.grown (later (omega (arith, low))) (λ x l. step (omega arith) y w l);
+        answered = λ n h z. elim (cases_order n item) [
+          | inl i ↦ subst (λ k. Answered p (Visited new) left right k) (sym i) (record { by = m; answers = w; leads = λ x l. g.all x l })
+          | inr (inl less) ↦ elim (cases_lt n a.at) [ inl i ↦ still-answered g.grown (a.answered n i z) | inr i ↦ absurd (f.0.before n i less z.next) ]
+          | inr (inr above) ↦ absurd (omega arith)
+        ];
+      }
 
-  pub along_end : {old q : Pairs} {item : ℕ} → 512 ≤ item → Along p moves left right old q item → Expanded p moves left right old q true
-  along_end {old} {q} {item} le a =
-      let e : item ≡ 512 = (let w = a.within in omega arith) in
-      all_answered (subst (λ z. Grown old q (Steps p moves left right z)) e a.grown) (subst (AllAnswered p moves (Visited q) left right) e a.answered)
+  -- an item that cannot occur
+  pub along_past : {old q : Pairs} {ahead rest : List ℕ} {item : ℕ} → Along p moves left right old q ahead → ahead ≡ item ∷ rest → flag moves.live.marks item && flag p.alive.marks item ≡ false → Along p moves left right old q rest
+  along_past {old} {q} {rest = rest} {item} a e t =
+      let f = row_front moves.next.words (left % 1024) a.at item rest (sym a.rest ∙ e) in
+      let low = f.0.low in
+      let below = f.0.below in
+      record {
+        at = item + 1;
+        rest = f.1;
+        within = omega arith;
+        grown = grown-within a.grown (later (omega (arith, low)));
+        answered = λ n h z. elim (cases_order n item) [
+          | inl i ↦ absurd (false≢true (sym t ∙ and_from (flag moves.live.marks item) (flag p.alive.marks item) (ap (flag moves.live.marks) (sym i) ∙ z.live) (ap (flag p.alive.marks) (sym i) ∙ z.alive)))
+          | inr (inl less) ↦ elim (cases_lt n a.at) [ inl i ↦ a.answered n i z | inr i ↦ absurd (f.0.before n i less z.next) ]
+          | inr (inr above) ↦ absurd (omega arith)
+        ];
+      }
 
-  pub along_stop : {old q new : Pairs} {item found : ℕ} → item < 512 → 512 ≤ found → Along p moves left right old q item → FirstOf (Answers p (right_place left right) item) 0 found → Expanded p moves left right old new false
-  along_stop {item = item} lt le a f = one_unanswered (item, (a.here lt, λ m w. f.passed m (omega arith) (let h = w.inside in omega arith) w))
+  pub along_end : {old q : Pairs} {ahead : List ℕ} → Along p moves left right old q ahead → ahead ≡ [] → Expanded p moves left right old q true
+  along_end a e = all_answered (grown-within a.grown (later a.within))
+      (λ n h z. elim (cases_lt n a.at) [ inl i ↦ a.answered n i z | inr i ↦ absurd (row_empty moves.next.words (left % 1024) a.at (sym a.rest ∙ e) n i h z.next) ])
+
+  pub along_stop : {old q new : Pairs} {ahead rest : List ℕ} {item : ℕ} → Along p moves left right old q ahead → ahead ≡ item ∷ rest → flag moves.live.marks item && flag p.alive.marks item ≡ true
+      → ((m : ℕ) → Answers p (right_place left right) item m → ⊥) → Expanded p moves left right old new false
+  along_stop {item = item} a e t none = one_unanswered (item, (goes a e t, none))
 
 -- ONE PAIR
 
-module _ {p : Positions} {l : Moves} {a left right : ℕ} {old q : Pairs} where
-  looked : {r : Bool} → ends_alike p a left right ≡ true → Expanded p (moves_at p l left) left right old q r → Looked p l a left right old q r
-  looked e (all_answered g h) = passed g (record { ends = e; steps = h })
-  looked e (one_unanswered u) = failed (no_answer u)
+pub looked : {p : Positions} {l : Moves} {a left right : ℕ} {old q : Pairs} {r : Bool} → ends_alike p a left right ≡ true → Expanded p (moves_at p l left) left right old q r → Looked p l a left right old q r
+looked e (all_answered g h) = passed g (record { ends = e; steps = h })
+looked e (one_unanswered u) = failed (no_answer u)
 
-  -- in whole types, and within the row asked about
-  pub looked_whole : {r : Bool} → left < 1024 → ends_alike p a left right ≡ true → Expanded p p.whole left right old q r → Looked p l a left right old q r
-  looked_whole {r} lt e h = looked e (subst (λ m. Expanded p m left right old q r) (sym (ap (λ (b : Bool). cond b p.whole l) (lt-ltb left 1024 lt))) h)
-
-  pub looked_local : {r : Bool} → 1024 ≤ left → ends_alike p a left right ≡ true → Expanded p l left right old q r → Looked p l a left right old q r
-  looked_local {r} le e h = looked e (subst (λ m. Expanded p m left right old q r) (sym (ap (λ (b : Bool). cond b p.whole l) (le-ltb left 1024 le))) h)
+-- a pair that is looked at by its number
+by_number : {p : Positions} {l : Moves} {a : ℕ} {old q : Pairs} {r : Bool} (x : Pair) → Looked p l a x.left x.right old q r → Looked p l a (number x / 512) (number x % 512) old q r
+by_number {p} {l} {a} {old} {q} {r} x h =
+    let low = x.right_low in
+    let i : x.left ≡ number x / 512 = omega arith in
+    let j : x.right ≡ number x % 512 = omega arith in
+    subst (λ y. Looked p l a (number x / 512) y old q r) j (subst (λ y. Looked p l a y x.right old q r) i h)
 
 -- THE WHOLE SEARCH
 
 pub record Searching (p : Positions) (l : Moves) (a b : ℕ) (q : Pairs) : Type 0 where
-  pub held : Held q
   pub begin : Visited q (pair (1024 + a) b)
   pub reached : (x : ℕ) → Visited q x → Reached p l a b x
-  pub passes : (x : ℕ) → Visited q x → bit q.waiting x ≡ false → Passes p l a (Visited q) (x / 512) (x % 512)
+  pub passes : (x : ℕ) → Visited q x → bit q.waiting.words x ≡ false → Passes p l a (Visited q) (x / 512) (x % 512)
 
 still-passes : {p : Positions} {l : Moves} {a left right : ℕ} {old q : Pairs} {P : ℕ → Type 0} → Grown old q P → Passes p l a (Visited old) left right → Passes p l a (Visited q) left right
 still-passes g h = record { ends = h.ends; steps = λ n lt y. still-answered g (h.steps n lt y) }
@@ -100,19 +126,17 @@ still-passes g h = record { ends = h.ends; steps = λ n lt y. still-answered g (
 module _ {p : Positions} {l : Moves} {a b : ℕ} where
   pub search_start : {old q : Pairs} → Fresh old → Put old q (λ x. x ≡ pair (1024 + a) b) → Searching p l a b q
   search_start {old} {q} f g = record {
-    held = g.grown.held;
     begin = g.all (pair (1024 + a) b) refl;
-    reached = λ x s. elim (g.grown.only x s) [ inl o ↦ absurd (f.none x o) | inr e ↦ first e ];
-    passes = λ x s idle. never (sym idle ∙ g.grown.new x s (λ o. f.none x o));
+    reached = λ x s. elim (g.grown.only x s) [ inl o ↦ absurd (f x o) | inr e ↦ first e ];
+    passes = λ x s idle. absurd (false≢true (sym idle ∙ g.grown.new x s (λ o. f x o)));
   }
 
   -- a pair that waited was taken, and passed
-  pub search_on : {old mid new : Pairs} {x : ℕ} → Searching p l a b old → Visited old x → Taken old mid x → Looked p l a (x / 512) (x % 512) mid new true → Searching p l a b new
-  search_on {old} {mid} {new} {x} s v t (passed g h) = record {
-    held = g.held;
+  went_on : {old mid new : Pairs} {x : ℕ} → Searching p l a b old → Visited old x → Taken old mid x → Looked p l a (x / 512) (x % 512) mid new true → Searching p l a b new
+  went_on {old} {mid} {new} {x} s v t (passed g h) = record {
     begin = g.still _ (kept _ s.begin);
     reached = λ y w. elim (g.only y w) [ inl m ↦ s.reached y (was y m) | inr z ↦ more (s.reached x v) z ];
-    passes = λ y w idle. settled y w idle (bit mid.visited y) refl;
+    passes = λ y w idle. settled y w idle (bit mid.visited.words y) refl;
   }
     where
       kept : (y : ℕ) → Visited old y → Visited mid y
@@ -121,30 +145,29 @@ module _ {p : Positions} {l : Moves} {a b : ℕ} where
       was : (y : ℕ) → Visited mid y → Visited old y
       was y w = sym (ap (λ z. bit z y) t.visited) ∙ w
 
-      earlier : (y : ℕ) → Visited mid y → bit new.waiting y ≡ false → Dec (y ≡ x) → Passes p l a (Visited new) (y / 512) (y % 512)
+      earlier : (y : ℕ) → Visited mid y → bit new.waiting.words y ≡ false → Dec (y ≡ x) → Passes p l a (Visited new) (y / 512) (y % 512)
       earlier y m idle (yes e) = subst (λ z. Passes p l a (Visited new) (z / 512) (z % 512)) (sym e) h
       earlier y m idle (no n) = still-passes g (carried (s.passes y (was y m) (sym (t.others y n) ∙ (sym (g.done y m) ∙ idle))))
         where
           carried : Passes p l a (Visited old) (y / 512) (y % 512) → Passes p l a (Visited mid) (y / 512) (y % 512)
           carried z = subst (λ v. Passes p l a (λ w. bit v w ≡ true) (y / 512) (y % 512)) (sym t.visited) z
 
-      settled : (y : ℕ) → Visited new y → bit new.waiting y ≡ false → (b : Bool) → bit mid.visited y ≡ b → Passes p l a (Visited new) (y / 512) (y % 512)
+      settled : (y : ℕ) → Visited new y → bit new.waiting.words y ≡ false → (b : Bool) → bit mid.visited.words y ≡ b → Passes p l a (Visited new) (y / 512) (y % 512)
       settled y w idle true e = earlier y e idle (ℕ_discrete y x)
-      settled y w idle false e = never (sym idle ∙ g.new y w (λ m. never (sym e ∙ m)))
+      settled y w idle false e = absurd (false≢true (sym idle ∙ g.new y w (λ m. absurd (false≢true (sym e ∙ m)))))
 
-  pub search_fails : {old mid new : Pairs} (x : ℕ) → Searching p l a b old → Visited old x → Looked p l a (x / 512) (x % 512) mid new false → Verdict p l a b false
-  search_fails x s v (failed f) = unlike (s.reached x v) f
+  pub search_on : {old mid new : Pairs} (x : Pair) → Searching p l a b old → Popped old mid (Some x) → Looked p l a x.left x.right mid new true → Searching p l a b new
+  search_on {old} x s w h = went_on s (old.held (number x) w.0) w.1 (by_number x h)
 
-  pub search_ends : {q : Pairs} {found : ℕ} → Searching p l a b q → 1048576 ≤ found → Bit-next q.waiting 0 1048576 found → Verdict p l a b true
-  search_ends {q} {found} s le n = alike q s.begin (λ x v. s.passes x v (idle x))
-    where
-      idle : (x : ℕ) → bit q.waiting x ≡ false
-      idle x = go (bit q.waiting x) refl
-        where
-          go : (b : Bool) → bit q.waiting x ≡ b → b ≡ false
-          go false e = refl
-          go true e = let i = bit-within q.waiting x e in let g = q.waiting_long in let lt : x < found = omega arith in sym e ∙ n.passed x (omega arith) lt
+  failed-at : {old mid new : Pairs} (x : ℕ) → Searching p l a b old → Visited old x → Looked p l a (x / 512) (x % 512) mid new false → Verdict p l a b false
+  failed-at x s v (failed f) = unlike (s.reached x v) f
+
+  pub search_fails : {old mid new : Pairs} (x : Pair) → Searching p l a b old → Popped old mid (Some x) → Looked p l a x.left x.right mid new false → Verdict p l a b false
+  search_fails {old} x s w h = failed-at (number x) s (old.held (number x) w.0) (by_number x h)
+
+  pub search_ends : {old : Pairs} → Searching p l a b old → ((x : ℕ) → Waiting old x → ⊥) → Verdict p l a b true
+  search_ends {old} s none = alike old s.begin (λ x v. s.passes x v (false_from_ne_true (bit old.waiting.words x) (none x)))
 
 -- each turn leaves less to do
-pub lighter : {p : Positions} {l : Moves} {a left right x : ℕ} {old mid new : Pairs} → Taken old mid x → Looked p l a left right mid new true → load new < load old
-lighter t (passed g h) = let a = t.lighter in let b = g.lighter in omega arith
+pub lighter : {p : Positions} {l : Moves} {a : ℕ} {old mid new : Pairs} (x : Pair) → Popped old mid (Some x) → Looked p l a x.left x.right mid new true → load new < load old
+lighter x w (passed g h) = let a = w.1.lighter in let b = g.lighter in omega arith

@@ -8,17 +8,21 @@ use Rattle.types.specs.Belonging.{Subtype}
 use Rattle.types.specs.Determinism.{Nullable, Last}
 use Rattle.types.specs.Places.{Place, start, behind, type_of, Next, Ends, end_nothing, end_last, Useful, covers, Reach, r_start, r_on, r_in, Checked}
 use Rattle.types.specs.Tables.{Exactly}
+use Rattle.types.proofs.Exact.{known, shown}
 use Rattle.types.proofs.OfTable.{table-lawful}
 use Rattle.types.proofs.Labels.{covers-overlaps}
 use Rattle.types.proofs.Sound.{Answer, closed-subtype}
 use Rattle.types.proofs.Complete.{subtype_simulates}
 use Rattle.positions.specs.declared.tables.Positions.{Positions}
-use Rattle.positions.specs.declared.tables.Moves.{Moves}
-use Rattle.positions.specs.Built.{flag, related, types_of, top, FreeBelow, MovesBelow, Built}
-use Rattle.positions.proofs.Reading.{true-test, test_true, within_low, one-root, At, at_start, at_item, next-within, next_small, read_next, next-read, read_useful, useful-live, useful-alive}
+use Rattle.positions.specs.declared.moves.Moves.{Moves}
+use Rattle.bits.specs.Bits.{related}
+use Rattle.positions.specs.Below.{flag, FreeBelow}
+use Rattle.positions.specs.Built.{types_of, top, Built}
+use Rattle.positions.specs.Tables.{MovesBelow}
+use Rattle.positions.proofs.Reading.{within_low, one-root, At, at_start, at_item, next-within, next_small, read_next, next-read, read_useful, useful-live, useful-alive}
 use Rattle.subtyping.specs.declared.pairs.Pairs.{Pairs}
-use Rattle.subtyping.specs.Worklist.{Visited}
-use Rattle.subtyping.specs.Comparison.{pair, behind_item, moves_at, right_place, ends_at, ends_left, ends_right, ends_alike, Goes, Answers, Leads, on, into, Steps, step, Passes, Fails, no_end, no_answer, Reached, first, more, Verdict, alike, unlike}
+use Rattle.subtyping.specs.Worklist.{pair, Visited}
+use Rattle.subtyping.specs.Comparison.{behind_item, moves_at, right_place, ends_at, ends_left, ends_right, ends_alike, Goes, Answers, Leads, on, into, Steps, step, Passes, Fails, no_end, no_answer, Reached, first, more, Verdict, alike, unlike}
 
 -- numbers of pairs
 
@@ -118,7 +122,7 @@ module _ (p : Positions) (l : Moves) (a : ℕ) (built : Built p) (local : MovesB
       let h = subst (λ z. Goes p z at n) (ap (moves_at p l) e ∙ r.moves at s) (subst (λ z. Goes p (moves_at p l left) z n) (ap (λ z. z % 1024) e ∙ r.rest at s) g) in
       let x = read_next law r.below r.low r.small r.free t h.inside h.next in
       let w = next-within law r.below r.low r.small r.free t x in
-      let u = read_useful law r.below r.low r.small r.free w ((built.alive n).0 (test_true _ h.alive)) h.live in
+      let u = read_useful law r.below r.low r.small r.free w (known (built.alive n) h.alive) h.live in
       (x, subst (λ z. Useful (types_of p) z n) (sym (at_type t)) u)
 
   next-goes : {left n : ℕ} {q : Place} → LeftAt (types_of p) a left q → Next (types_of p) q n → Useful (types_of p) (type_of q) n → Goes p (moves_at p l left) (left % 1024) n
@@ -130,7 +134,7 @@ module _ (p : Positions) (l : Moves) (a : ℕ) (built : Built p) (local : MovesB
         inside = next_small law r.below r.low r.small r.free t x;
         next = next-read law r.below r.low r.small r.free t x;
         live = useful-live law r.below r.low r.small r.free v;
-        alive = true-test _ ((built.alive n).1 (useful-alive v));
+        alive = shown (built.alive n) (useful-alive v);
       } in
       subst (λ z. Goes p (moves_at p l left) z n) (sym (ap (λ z. z % 1024) e ∙ r.rest at s)) (subst (λ z. Goes p z at n) (sym (ap (moves_at p l) e ∙ r.moves at s)) h)
 
@@ -178,13 +182,13 @@ module _ (p : Positions) (l : Moves) (a : ℕ) (built : Built p) (local : MovesB
 
   ends_is : {c at : ℕ} {q : Place} → c < 512 → At (types_of p) c q at → Exactly (ends_at p c at) (Ends (types_of p) q)
   ends_is {c} lt at_start =
-      let e : ends_at p c c ≡ flag p.nullable c = ap (λ (b : Bool). cond b (flag p.nullable c) (related p.lasts c (c % 512))) (lt-ltb c 512 lt) in
+      let e : ends_at p c c ≡ flag p.nullable.marks c = ap (λ (b : Bool). cond b (flag p.nullable.marks c) (related p.lasts.words c (c % 512))) (lt-ltb c 512 lt) in
       (λ h. end_nothing ((built.nullable c).0 (subst T e h)), λ h. subst T (sym e) ((built.nullable c).1 (nothing-of h)))
   ends_is {c} lt (at_item {x} w) =
       let k = within_low law w in
       let i : (512 + x) % 512 ≡ x = omega arith in
-      let e : ends_at p c (512 + x) ≡ related p.lasts c x =
-      ap (λ (b : Bool). cond b (flag p.nullable (512 + x)) (related p.lasts c ((512 + x) % 512))) (le-ltb (512 + x) 512 (omega arith)) ∙ ap (related p.lasts c) i in
+      let e : ends_at p c (512 + x) ≡ related p.lasts.words c x =
+      ap (λ (b : Bool). cond b (flag p.nullable.marks (512 + x)) (related p.lasts.words c ((512 + x) % 512))) (le-ltb (512 + x) 512 (omega arith)) ∙ ap (related p.lasts.words c) i in
       (λ h. end_last ((built.lasts c x lt (omega arith)).0 (subst T e h)), λ h. subst T (sym e) ((built.lasts c x lt (omega arith)).1 (last_of h)))
 
   -- the root of a row within one
@@ -284,7 +288,7 @@ module _ (p : Positions) (l : Moves) (a : ℕ) (built : Built p) (local : MovesB
         V s t = (x : ℕ) × (Visited q x × Denotes x s t)
 
         ends : (s t : Place) → V s t → Ends (types_of p) s → Ends (types_of p) t
-        ends s t (x, (v, d)) = (ends_alike-is d.left d.right).0 (test_true _ (passes x v).ends)
+        ends s t (x, (v, d)) = known (ends_alike-is d.left d.right) (passes x v).ends
 
         steps : (s t : Place) (n : ℕ) → V s t → Next (types_of p) s n → Useful (types_of p) (type_of s) n → Answer (types_of p) V s t n
         steps s t n (x, (v, d)) y u =

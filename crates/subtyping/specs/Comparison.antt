@@ -3,17 +3,16 @@ use Rattle.std.specs.Prelude.{◌≡◌, ℕ, ◌+◌, ◌*◌, ◌/◌, ◌%◌
 use Rattle.types.specs.Parts.{row, content}
 use Rattle.types.specs.Places.{covers}
 use Rattle.positions.specs.declared.tables.Positions.{Positions}
-use Rattle.positions.specs.declared.tables.Moves.{Moves}
-use Rattle.positions.specs.Built.{flag, related, types_of, top}
+use Rattle.positions.specs.declared.moves.Moves.{Moves}
+use Rattle.bits.specs.Bits.{related}
+use Rattle.positions.specs.Below.{flag}
+use Rattle.positions.specs.Built.{types_of, top}
 use Rattle.subtyping.specs.declared.pairs.Pairs.{Pairs}
-use Rattle.subtyping.specs.Worklist.{Visited, Grown}
+use Rattle.subtyping.specs.Worklist.{pair, Visited, Grown}
 
 -- PLACES BY NUMBER
 -- A place in a whole type has the number of its row at the start, and 512 more than the item behind it.
 -- A place within the row asked about has 1,024 more. A pair of places has the number of the left one and the row of the right one, which stands alike.
-
-abbrev pub pair : ℕ → ℕ → ℕ
-pair left right = left * 512 + right
 
 -- the place behind the item n
 abbrev pub behind_item : ℕ → ℕ → ℕ
@@ -28,7 +27,7 @@ right_place left right = cond (nat_lt (left % 1024) 512) right (512 + right)
 
 -- the forest may end at a place of the row `inside`, by the tables
 abbrev pub ends_at : Positions → ℕ → ℕ → Bool
-ends_at p inside place = cond (nat_lt place 512) (flag p.nullable place) (related p.lasts inside (place % 512))
+ends_at p inside place = cond (nat_lt place 512) (flag p.nullable.marks place) (related p.lasts.words inside (place % 512))
 
 abbrev pub ends_left : Positions → ℕ → ℕ → Bool
 ends_left p a left = ends_at p (cond (nat_lt left 1024) (top p (left % 512)) a) (left % 1024)
@@ -45,14 +44,14 @@ ends_alike p a left right = cond (ends_left p a left) (ends_right p left right) 
 -- the item n may come next at a place, and can occur
 pub record Goes (p : Positions) (m : Moves) (place n : ℕ) : Type 0 where
   pub inside : n < 512
-  pub next : related m.next place n ≡ true
-  pub live : flag m.live n ≡ true
-  pub alive : flag p.alive n ≡ true
+  pub next : related m.next.words place n ≡ true
+  pub live : flag m.live.marks n ≡ true
+  pub alive : flag p.alive.marks n ≡ true
 
 -- the item m may come next at a place of whole types, and covers n
 pub record Answers (p : Positions) (place n m : ℕ) : Type 0 where
   pub inside : m < 512
-  pub next : related p.whole.next place m ≡ true
+  pub next : related p.whole.next.words place m ≡ true
   pub cover : covers (row (types_of p) n) (row (types_of p) m) ≡ true
 
 -- the pairs that two items lead to

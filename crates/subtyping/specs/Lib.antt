@@ -1,2 +1,3 @@
+pub mod Waits
 pub mod Worklist
 pub mod Comparison

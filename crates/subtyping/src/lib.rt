@@ -1,8 +1,9 @@
 #![tactic(auto)]
 
+mod ends;
 mod pairs;
+mod places;
 mod search;
-mod sides;
 mod worklist;
 
 pub use search::is_subtype;

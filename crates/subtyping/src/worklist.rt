@@ -1,35 +1,35 @@
-ghost use Rattle.std.specs.Prelude.{◌≡◌, ◌<◌};
-ghost use Rattle.subtyping.specs.Worklist.{Fresh, Held, Put, Taken, Waiting};
+ghost use Rattle.std.specs.Prelude.{◌≡◌};
+ghost use Rattle.subtyping.specs.Worklist.{number, Fresh, Put, Popped};
 
-use crate::pairs::Pairs;
+use crate::pairs::{Pair, Pairs};
+use bits::Relation;
 
 impl Pairs {
     pub(crate) fn new() -> Pairs
         ensures { Fresh result }
     {
         Pairs {
-            visited: [0; 16384],
-            waiting: [0; 16384],
+            visited: Relation::new(),
+            waiting: Relation::new(),
         }
     }
 
     /// Puts a pair where it was not visited yet.
-    pub(crate) fn push(&mut self, pair: usize)
-        requires held { Held self.old }
-        requires within { pair < 1048576 }
-        ensures { Put self.old self.new (λ x. x ≡ pair) }
+    pub(crate) fn push(&mut self, pair: Pair)
+        ensures { Put self.old self.new (λ x. x ≡ number pair) }
     {
-        if bits::insert(&mut self.visited, pair) {
-            let _ = bits::insert(&mut self.waiting, pair);
+        if self.visited.insert(pair.left, pair.right) {
+            let _ = self.waiting.insert(pair.left, pair.right);
         }
     }
 
     /// Takes a pair from those that wait.
-    pub(crate) fn take(&mut self, pair: usize)
-        requires held { Held self.old }
-        requires waits { Waiting self.old pair }
-        ensures { Taken self.old self.new pair }
+    pub(crate) fn pop(&mut self) -> Option<Pair>
+        ensures { Popped self.old self.new result }
     {
-        bits::remove(&mut self.waiting, pair);
+        let (left, right) = self.waiting.first()?;
+        let pair = Pair { left, right };
+        self.waiting.remove(pair.left, pair.right);
+        Some(pair)
     }
 }

@@ -1,22 +1,28 @@
 -- Adding a table's rows one by one.
-use Rattle.std.proofs.Common.{◌≡◌, ℕ, ◌+◌, ◌-◌, ◌<◌, ◌≤◌, min, Bool, true, false, cond, List, [], ◌∷◌, ◌++◌, length, get_or, drop, Some, vec_items, vec_len, sym, refl, ap, ◌∙◌, append_assoc, arith, length-append, le-leb}
+use Rattle.std.proofs.Common.{◌≡◌, ℕ, ◌+◌, ◌-◌, ◌<◌, ◌≤◌, min, true, false, cond, List, [], ◌∷◌, ◌++◌, length, get_or, drop, Some, None, Ok, Err, Option, Result, vec_items, vec_len, sym, refl, ap, ◌∙◌, append_assoc, arith, length-append, le-leb}
 use Rattle.std.specs.Option.{option_to_list}
-use Rattle.std.proofs.lemmas.List.{at_drop_more, append-nil}
+use Rattle.std.specs.Result.{result_ok}
+use Rattle.std.proofs.lemmas.List.{at_drop_more}
 use Rattle.forest.specs.declared.space.Space.{Space}
 use Rattle.forest.specs.declared.fault.Reason.TheVariants.{UnlawfulTable}
 use Rattle.forest.specs.Faults.{faulted}
 use Rattle.forest.specs.Stores.{less}
-use Rattle.forest.proofs.Picked.{and_true}
+use Rattle.std.proofs.lemmas.Bool.{and_from}
 use Rattle.arena.specs.declared.arena.Arena.{Arena}
 use Rattle.arena.specs.declared.row.Row.{Row}
-use Rattle.arena.specs.Arenas.{Appended, Filled, allowed, means_over}
+use Rattle.arena.specs.Arenas.{Appended, Filled, Opened, allowed, means_over}
 use Rattle.arena.specs.Rows.{built}
+use Rattle.table.specs.declared.row.NoRow.{NoRow}
 use Rattle.table.specs.declared.row.RawRow.{RawRow}
-use Rattle.table.specs.Tables.{row_of, rows_of, row_lawful, sound_if, first_unlawful, refusal, at_row, table_meaning}
+use Rattle.table.specs.Tables.{Converts, row_of, rows_of, row_lawful, sound_if, first_unlawful, refusal, at_row, table_meaning}
 use Rattle.table.specs.Filling.{Prepared, Holds, Took}
 
-pub took : (a b : Arena) (r : RawRow) (q : Row) (ok : Bool) → Some q ≡ row_of r → 1 ≤ a.space.trees → Appended a q ok b → Took a r ok b
-took a b r q true is one (_, good, h, added) =
+pub converted : (r : RawRow) (v : Result Row NoRow) (o : Option Row) → Converts r v → o ≡ result_ok v → o ≡ row_of r
+converted r (Ok q) o c e = e ∙ c
+converted r (Err x) o c e = e ∙ c
+
+pub took : (a b : Arena) (r : RawRow) (q : Row) (o : Option ℕ) → Some q ≡ row_of r → 1 ≤ a.space.trees → Appended a q o b → Took a r o b
+took a b r q (Some h) is one (_, good, added) =
     let n = a.base + vec_len a.rows in
     let rows = added.rows ∙ ap (λ o. vec_items a.rows ++ (option_to_list o ++ [])) is in (
       sym (ap (sound_if n _ _) is) ∙ good,
@@ -29,7 +35,7 @@ took a b r q true is one (_, good, h, added) =
         space = added.space;
       },
     )
-took a b r q false is one (_, bad) = sym (ap (sound_if (a.base + vec_len a.rows) _ _) is) ∙ bad one
+took a b r q None is one (_, bad) = sym (ap (sound_if (a.base + vec_len a.rows) _ _) is) ∙ bad one
 
 rows_append : (xs ys : List RawRow) → rows_of (xs ++ ys) ≡ rows_of xs ++ rows_of ys
 rows_append [] ys = refl
@@ -54,16 +60,6 @@ holds_more a b c xs ys p q =
       space = q.space ∙ ap (λ s. less s (record { trees = length ys; children = 0; bytes = 0 })) p.space ∙ less-less a.space (length xs) (length ys) ∙ ap (λ n. less a.space (record { trees = n; children = 0; bytes = 0 })) (sym long);
     }
 
-less_none : (s : Space) → s ≡ less s (record { trees = 0; children = 0; bytes = 0 })
-less_none s =
-    let x : s.trees ≡ s.trees - 0 = omega arith in
-    let y : s.children ≡ s.children - 0 = omega arith in
-    let z : s.bytes ≡ s.bytes - 0 = omega arith in
-    ap (λ n. record { trees = n; children = s.children; bytes = s.bytes }) x ∙ ap (λ n. record { trees = s.trees - 0; children = n; bytes = s.bytes }) y ∙ ap (λ n. record { trees = s.trees - 0; children = s.children - 0; bytes = n }) z
-
-pub holds-none : (a : Arena) → Holds a [] a
-holds-none a = record { base = refl; rows = sym (append-nil (vec_items a.rows)); long = omega arith; children = refl; text = refl; space = less_none a.space }
-
 -- a row is judged alike at row n, in the arena b that a became
 judged : (a b : Arena) (r : RawRow) (n : ℕ) → b.base + vec_len b.rows ≡ n → b.children ≡ a.children → b.text ≡ a.text → row_lawful n (vec_items a.children) (vec_items a.text) r ≡ row_lawful (b.base + vec_len b.rows) (vec_items b.children) (vec_items b.text) r
 judged a b r n at es bs =
@@ -83,28 +79,25 @@ stopped_at a b rs n d lt at es bs bad =
     at_drop_more F rs n d lt ∙ ap (λ t. cond t rest (Some n)) (judged a b (get_or rs n d) n at es bs ∙ bad)
 
 -- a new arena, filled with the entries and the text that it has space for
-pub prepared : (n : ℕ) (es bs : List ℕ) (a b : Arena) (held : Bool) → n ≤ 65535 → length es ≤ 65535 → length bs ≤ 65535 → a.base ≡ 0 → a.space ≡ allowed 0 (record { trees = n; children = length es; bytes = length bs }) → vec_items a.rows ≡ [] → vec_items a.children ≡ [] → vec_items a.text ≡ [] → Filled a es bs held b → Prepared n es bs b
-prepared n es bs a b true x y z base space rows children text (_, _, e) =
+pub prepared : (n : ℕ) (es bs : List ℕ) (a b : Arena) (held : Option (Unit {0})) → n ≤ 65535 → length es ≤ 65535 → length bs ≤ 65535 → Opened 0 (record { trees = n; children = length es; bytes = length bs }) a → Filled a es bs held b → Prepared n es bs b
+prepared n es bs a b (Some u) x y z o (_, _, e) =
     let t : min n (1000000 - 0) - 0 ≡ n = omega arith in
     let k : min (length es) 1000000 - length es ≡ 0 = omega arith in
     let l : min (length bs) 1000000 - length bs ≡ 0 = omega arith in
-    let s : b.space ≡ less (allowed 0 (record { trees = n; children = length es; bytes = length bs })) (record { trees = 0; children = length es; bytes = length bs }) = e.space ∙ ap (λ q. less q (record { trees = 0; children = length es; bytes = length bs })) space in
+    let s : b.space ≡ less (allowed 0 (record { trees = n; children = length es; bytes = length bs })) (record { trees = 0; children = length es; bytes = length bs }) = e.space ∙ ap (λ q. less q (record { trees = 0; children = length es; bytes = length bs })) o.space in
     record {
-      base = e.base ∙ base;
-      rows = e.rows ∙ rows;
-      children = e.children ∙ ap (λ q. q ++ es) children;
-      text = e.text ∙ ap (λ q. q ++ bs) text;
+      base = e.base ∙ o.base;
+      rows = e.rows ∙ o.rows;
+      children = e.children ∙ ap (λ q. q ++ es) o.children;
+      text = e.text ∙ ap (λ q. q ++ bs) o.text;
       space = cc;
     }
-prepared n es bs a b false x y z base space rows children text (_, short) =
-    let k : min (length es) 1000000 ≡ length es = omega arith in
-    let l : min (length bs) 1000000 ≡ length bs = omega arith in
-    absurd (short (omega (arith, ap (λ s. s.children) space)) (omega (arith, ap (λ s. s.bytes) space)))
+prepared n es bs a b None x y z o (_, short) = absurd (short (omega (arith, ap (λ s. s.children) o.space)) (omega (arith, ap (λ s. s.bytes) o.space)))
 
 -- a table within the limits is judged by its rows
 pub within-limits : (rs : List RawRow) (es bs : List ℕ) → length rs ≤ 65535 → length es ≤ 65535 → length bs ≤ 65535 → refusal rs es bs ≡ at_row (first_unlawful 0 es bs rs)
 within-limits rs es bs a b c =
-    ap (λ t. cond t (at_row (first_unlawful 0 es bs rs)) (Some (faulted UnlawfulTable 4 0))) (and_true _ _ (le-leb (length rs) 65535 a) (and_true _ _ (le-leb (length es) 65535 b) (le-leb (length bs) 65535 c)))
+    ap (λ t. cond t (at_row (first_unlawful 0 es bs rs)) (Some (faulted UnlawfulTable 4 0))) (and_from _ _ (le-leb (length rs) 65535 a) (and_from _ _ (le-leb (length es) 65535 b) (le-leb (length bs) 65535 c)))
 
 -- what the arena means once all rows are in
 pub full_meaning : (n : ℕ) (rs : List RawRow) (es bs : List ℕ) (a b : Arena) → n ≡ length rs → Prepared n es bs a → Holds a rs b → means_over [] b ≡ table_meaning rs es bs

@@ -1,5 +1,9 @@
 -- An arena as a table's rows are added to it.
-use Rattle.std.specs.Prelude.{◌≡◌, ℕ, ◌+◌, Bool, true, false, List, [], ◌∷◌, ◌++◌, length, Some, None, vec_items, vec_len}
+use Rattle.std.specs.Prelude.{◌≡◌, ℕ, ◌+◌, true, false, List, [], ◌∷◌, ◌++◌, length, Some, None, vec_items, vec_len, Option}
+use Rattle.forest.specs.declared.failure.Failure.{Failure}
+use Rattle.forest.specs.declared.failure.Failure.TheVariants.{Refused}
+use Rattle.forest.specs.declared.fault.Reason.TheVariants.{UnlawfulTable}
+use Rattle.forest.specs.Faults.{faulted}
 use Rattle.forest.specs.Stores.{less}
 use Rattle.arena.specs.declared.arena.Arena.{Arena}
 use Rattle.table.specs.declared.row.RawRow.{RawRow}
@@ -23,13 +27,14 @@ pub record Holds (a : Arena) (rs : List RawRow) (b : Arena) : Type 0 where
   pub space : b.space ≡ less a.space (record { trees = length rs; children = 0; bytes = 0 })
 
 -- a lawful row is added; at another nothing changes
-abbrev pub Took : Arena → RawRow → Bool → Arena → Type 0
-Took a r true b = (row_lawful (a.base + vec_len a.rows) (vec_items a.children) (vec_items a.text) r ≡ true) × Holds a (r ∷ []) b
-Took a r false b = row_lawful (a.base + vec_len a.rows) (vec_items a.children) (vec_items a.text) r ≡ false
+abbrev pub Took : Arena → RawRow → Option ℕ → Arena → Type 0
+Took a r (Some h) b = (row_lawful (a.base + vec_len a.rows) (vec_items a.children) (vec_items a.text) r ≡ true) × Holds a (r ∷ []) b
+Took a r None b = row_lawful (a.base + vec_len a.rows) (vec_items a.children) (vec_items a.text) r ≡ false
 
 -- every row is lawful and was added
 abbrev pub Full : Arena → List RawRow → Arena → Type 0
 Full a rs b = (first_unlawful 0 (vec_items a.children) (vec_items a.text) rs ≡ None) × Holds a rs b
 
-abbrev pub Stopped : Arena → List RawRow → ℕ → Type 0
-Stopped a rs k = first_unlawful 0 (vec_items a.children) (vec_items a.text) rs ≡ Some k
+-- a row is not lawful, and the first such one is named
+abbrev pub Stopped : Arena → List RawRow → Failure → Type 0
+Stopped a rs e = (k : ℕ) × (first_unlawful 0 (vec_items a.children) (vec_items a.text) rs ≡ Some k) × (e ≡ Refused (faulted UnlawfulTable 4 k))

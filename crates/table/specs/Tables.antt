@@ -1,5 +1,5 @@
 -- When a table is lawful, and the trees that it means.
-use Rattle.std.specs.Prelude.{◌≡◌, ℕ, ◌+◌, Bool, false, cond, ◌&&◌, List, [], ◌∷◌, ◌++◌, length, ℤ, pos, negsuc, Some, None, Option, ◌==◌, nat_le}
+use Rattle.std.specs.Prelude.{◌≡◌, ℕ, ◌+◌, Bool, false, cond, ◌&&◌, List, [], ◌∷◌, ◌++◌, length, ℤ, pos, negsuc, Some, None, Ok, Err, Option, Result, ◌==◌, nat_le}
 use Rattle.std.specs.Option.{option_to_list}
 use Rattle.forest.specs.declared.fault.Fault.{Fault}
 use Rattle.forest.specs.declared.fault.Reason.TheVariants.{UnlawfulTable}
@@ -11,6 +11,7 @@ use Rattle.arena.specs.declared.row.Row.{Row}
 use Rattle.arena.specs.declared.row.Row.TheVariants.{Boolean, Integer, String, Element}
 use Rattle.arena.specs.declared.row.Span.{Span}
 use Rattle.arena.specs.Rows.{row_sound, built}
+use Rattle.table.specs.declared.row.NoRow.{NoRow}
 use Rattle.table.specs.declared.row.RawRow.{RawRow}
 
 abbrev pub span_of : RawRow → Span
@@ -29,6 +30,11 @@ row_of r =
     (cond (r.kind == 5) (boolean_row r.value)
     (cond (r.kind == 6) (cond (nat_le r.tag 65535) (Some (Element r.tag (span_of r))) None)
     None)))
+
+-- what turning a given row into a row answers
+abbrev pub Converts : RawRow → Result Row NoRow → Type 0
+Converts r (Ok q) = Some q ≡ row_of r
+Converts r (Err e) = None ≡ row_of r
 
 -- A given row is lawful as row n if it stands for one whose fields are in range and whose part is there, its children lower rows.
 abbrev pub sound_if : ℕ → List ℕ → List ℕ → Option Row → Bool

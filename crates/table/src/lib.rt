@@ -4,5 +4,5 @@ mod load;
 mod row;
 mod table;
 
-pub use row::RawRow;
+pub use row::{NoRow, RawRow};
 pub use table::Table;

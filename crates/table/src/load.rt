@@ -8,7 +8,7 @@ ghost use Rattle.table.specs.Filling.{Prepared, Took, Full, Stopped};
 
 use crate::row::RawRow;
 use crate::table::Table;
-use arena::Arena;
+use arena::{Arena, Row};
 use forest::{Failure, Fault, Reason, Space, Store};
 use std::alloc::{AllocError, Global};
 
@@ -18,7 +18,7 @@ const MOST: usize = 65_535;
 impl Table {
     /// Loads a table, or refuses it: past a limit, else by its first unlawful row.
     pub fn load(
-        heap: Global,
+        alloc: Global,
         rows: &[RawRow],
         children: &[u32],
         text: &[u8],
@@ -28,26 +28,23 @@ impl Table {
         if rows.len() > MOST || children.len() > MOST || text.len() > MOST {
             return Err(unlawful(0));
         }
-        let mut own = prepared(heap, rows.len() as u32, children, text)?;
-        match add_rows(&mut own, rows) {
-            Ok(()) => Ok(Table { own }),
-            Err(row) => Err(unlawful(row)),
-        }
+        let mut own = prepared(alloc, rows.len() as u32, children, text)?;
+        add_rows(&mut own, rows)?;
+        Ok(Table { own })
     }
 }
 
-fn unlawful(row: u32) -> Failure
+// Captures refuse alike. One function for both would be given the reason and the layer, and be `Fault::new` again.
+fn unlawful(row: usize) -> Failure
+    requires { row ≤ 65535 }
     ensures { result ≡ Refused (faulted UnlawfulTable 4 row) }
 {
-    Failure::Refused(Fault {
-        reason: Reason::UnlawfulTable,
-        layer: <Table as Store>::LAYER,
-        row,
-    })
+    let fault = Fault::new(Reason::UnlawfulTable, <Table as Store>::LAYER, row as u32);
+    Failure::Refused(fault)
 }
 
 /// An arena with these child entries and this text, and space for so many rows.
-fn prepared(heap: Global, rows: u32, children: &[u32], text: &[u8]) -> Result<Arena, AllocError>
+fn prepared(alloc: Global, rows: u32, children: &[u32], text: &[u8]) -> Result<Arena, AllocError>
     requires few_rows { rows ≤ 65535 }
     requires few_children { length children.now ≤ 65535 }
     requires few_bytes { length text.now ≤ 65535 }
@@ -58,34 +55,30 @@ fn prepared(heap: Global, rows: u32, children: &[u32], text: &[u8]) -> Result<Ar
         children: children.len() as u32,
         bytes: text.len() as u32,
     };
-    let mut own = Arena::open(heap, 0, space)?;
-    let _held = own.fill(children, text);
+    let mut own = Arena::open(alloc, 0, space)?;
+    own.fill(children, text).unwrap();
     Ok(own)
 }
 
-/// Adds the rows to an empty arena that has space for just so many, or gives the first unlawful one.
-fn add_rows(own: &mut Arena, rows: &[RawRow]) -> Result<(), u32>
+/// Adds the rows to an empty arena that has space for just so many, or refuses by the first unlawful one.
+fn add_rows(own: &mut Arena, rows: &[RawRow]) -> Result<(), Failure>
     requires ground { own.old.base ≡ 0 }
     requires empty { own.old.rows.items ≡ [] }
     requires room { own.old.space.trees ≡ length rows.now }
     requires few { length rows.now ≤ 65535 }
-    ensures { MatchResult result (λ _. Full own.old rows.now own.new) (λ k. Stopped own.old rows.now k) }
+    ensures { MatchResult result (λ _. Full own.old rows.now own.new) (λ e. Stopped own.old rows.now e) }
 {
     for (index, raw) in rows.iter().enumerate() {
-        if !add_row(own, raw) {
-            return Err(index as u32);
-        }
+        add_row(own, *raw).ok_or(unlawful(index))?;
     }
     Ok(())
 }
 
-/// Adds one row, or says false where it is not lawful.
-fn add_row(own: &mut Arena, raw: &RawRow) -> bool
+/// Adds one row, and gives its handle, if it is lawful.
+fn add_row(own: &mut Arena, raw: RawRow) -> Option<u32>
     requires { 1 ≤ own.old.space.trees }
-    ensures { Took own.old raw.now result own.new }
+    ensures { Took own.old raw result own.new }
 {
-    match raw.row() {
-        Some(row) => own.append(row),
-        None => false,
-    }
+    let row = Row::try_from(raw).ok()?;
+    own.append(row)
 }

@@ -14,13 +14,9 @@ pub struct Table {
 impl Store for Table {
     const LAYER: u8 = 4;
 
-    ghost layer = { 4 };
+    ghost LAYER = { 4 };
 
     ghost means = { λ t. means_over [] t.own };
-
-    fn layer_number() -> u8 {
-        Self::LAYER
-    }
 
     fn count(&self) -> u32 {
         self.own.count()
@@ -30,7 +26,7 @@ impl Store for Table {
         self.own.space()
     }
 
-    fn kind(&self, handle: u32) -> Kind {
+    fn kind(&self, handle: u32) -> Option<Kind> {
         self.own.kind(handle)
     }
 
@@ -59,18 +55,18 @@ impl Store for Table {
     }
 
     fn make_integer(&mut self, value: i64) -> Result<u32, Fault> {
-        self.own.make_integer(Self::layer_number(), value)
+        self.own.make_integer(Self::LAYER, value)
     }
 
     fn make_boolean(&mut self, value: u32) -> Result<u32, Fault> {
-        self.own.make_boolean(Self::layer_number(), value)
+        self.own.make_boolean(Self::LAYER, value)
     }
 
     fn make_string(&mut self, text: &[u8]) -> Result<u32, Fault> {
-        self.own.make_string(Self::layer_number(), text)
+        self.own.make_string(Self::LAYER, text)
     }
 
     fn make_element(&mut self, tag: u32, children: &[u32]) -> Result<u32, Fault> {
-        self.own.make_element(Self::layer_number(), tag, children)
+        self.own.make_element(Self::LAYER, tag, children)
     }
 }

@@ -1,6 +1,6 @@
 -- What is left behind a row within another, and how items follow one another there.
-use Rattle.std.proofs.Common.{◌≡◌, ℕ, ◌≤◌, Bool, true, false, cond, ◌||◌, T, eqb, ◌⊎◌, List, [], ◌∷◌, sym, refl, ap, ◌∙◌, subst, inl, inr, arith, eqb→eq}
-use lib.Dec.{eqb_refl}
+use Rattle.std.proofs.Common.{◌≡◌, ℕ, ◌≤◌, true, eqb, List, [], ◌∷◌, sym, refl, ap, ◌∙◌, subst, inl, inr, arith}
+use Rattle.std.proofs.lemmas.Bool.{or_cases, or_left, or_right, cond-true, cond-false, eqb-true, eq-eqb, false_from_ne_true, false≢true}
 use Rattle.rows.specs.declared.type_row.TypeRow.{TypeRow}
 use Rattle.rows.specs.declared.type_row.TypeRow.TheVariants.{EmptyChoice, EmptySequence, Integer, String, Boolean, Element, AnyElement, Sequence, Choice, Repetition}
 use Rattle.rows.specs.TypeRows.{owns, twice}
@@ -9,32 +9,6 @@ use Rattle.types.specs.Determinism.{label, Nullable, repeated, Last, in_sequence
 use Rattle.types.specs.Determinism.Last.{item, of_right, before_right, of_first, of_second, of_part}
 use Rattle.types.specs.Places.{FollowsIn, left_behind, Left, l_top, l_down}
 use Rattle.types.proofs.Steps.{Begins, b_item, b_left, b_right, b_first, b_second, b_part, Step, now, later, Nullables, z_more, begins_first}
-
--- TESTS ON PARTS
-
-pub same : (x y : ℕ) → x ≡ y → eqb x y ≡ true
-same x y e = ap (λ z. eqb x z) (sym e) ∙ go (eqb x x) (eqb_refl x)
-  where
-    go : (b : Bool) → T b → b ≡ true
-    go true h = refl
-    go false h = absurd h
-
-pub known_same : (x y : ℕ) → eqb x y ≡ true → x ≡ y
-known_same x y e = eqb→eq x y (subst T (sym e) tt)
-
-or_either : (x y : Bool) → x || y ≡ true → (x ≡ true) ⊎ (y ≡ true)
-or_either true y e = inl refl
-or_either false y e = inr e
-
-or_left : (x y : Bool) → x ≡ true → x || y ≡ true
-or_left x y e = ap (λ z. z || y) e
-
-or_right : (x y : Bool) → y ≡ true → x || y ≡ true
-or_right true y e = refl
-or_right false y e = e
-
-false-true : false ≡ true → ⊥
-false-true e = let z : ◌≡◌ {A = ℕ} 0 1 = cc in omega arith
 
 -- the parts of a row, by its kind
 pub data PartOf (p : ℕ) : TypeRow → Type 0 where
@@ -45,23 +19,23 @@ pub data PartOf (p : ℕ) : TypeRow → Type 0 where
   repeats : {a : ℕ} → p ≡ a → PartOf p (Repetition a)
 
 pub part_of : (w : TypeRow) (p : ℕ) → owns w p ≡ true → PartOf p w
-part_of EmptyChoice p e = absurd (false-true e)
-part_of EmptySequence p e = absurd (false-true e)
-part_of Integer p e = absurd (false-true e)
-part_of String p e = absurd (false-true e)
-part_of Boolean p e = absurd (false-true e)
-part_of (Element t c) p e = absurd (false-true e)
-part_of (AnyElement c) p e = absurd (false-true e)
-part_of (Sequence a b) p e = elim (or_either (eqb a p) (eqb b p) e) [ inl h ↦ left (sym (known_same a p h)) | inr h ↦ right (sym (known_same b p h)) ]
-part_of (Choice a b) p e = elim (or_either (eqb a p) (eqb b p) e) [ inl h ↦ first (sym (known_same a p h)) | inr h ↦ second (sym (known_same b p h)) ]
-part_of (Repetition a) p e = repeats (sym (known_same a p e))
+part_of EmptyChoice p e = absurd (false≢true e)
+part_of EmptySequence p e = absurd (false≢true e)
+part_of Integer p e = absurd (false≢true e)
+part_of String p e = absurd (false≢true e)
+part_of Boolean p e = absurd (false≢true e)
+part_of (Element t c) p e = absurd (false≢true e)
+part_of (AnyElement c) p e = absurd (false≢true e)
+part_of (Sequence a b) p e = elim (or_cases (eqb a p) (eqb b p) e) [ inl h ↦ left (sym (eqb-true a p h)) | inr h ↦ right (sym (eqb-true b p h)) ]
+part_of (Choice a b) p e = elim (or_cases (eqb a p) (eqb b p) e) [ inl h ↦ first (sym (eqb-true a p h)) | inr h ↦ second (sym (eqb-true b p h)) ]
+part_of (Repetition a) p e = repeats (sym (eqb-true a p e))
 
 pub owns-part : {p : ℕ} {w : TypeRow} → PartOf p w → owns w p ≡ true
-owns-part {p} (left {a} {b} e) = or_left (eqb a p) (eqb b p) (same a p (sym e))
-owns-part {p} (right {a} {b} e) = or_right (eqb a p) (eqb b p) (same b p (sym e))
-owns-part {p} (first {a} {b} e) = or_left (eqb a p) (eqb b p) (same a p (sym e))
-owns-part {p} (second {a} {b} e) = or_right (eqb a p) (eqb b p) (same b p (sym e))
-owns-part {p} (repeats {a} e) = same a p (sym e)
+owns-part {p} (left {a} {b} e) = or_left (eqb a p) (eqb b p) (eq-eqb a p (sym e))
+owns-part {p} (right {a} {b} e) = or_right (eqb a p) (eqb b p) (eq-eqb b p (sym e))
+owns-part {p} (first {a} {b} e) = or_left (eqb a p) (eqb b p) (eq-eqb a p (sym e))
+owns-part {p} (second {a} {b} e) = or_right (eqb a p) (eqb b p) (eq-eqb b p (sym e))
+owns-part {p} (repeats {a} e) = eq-eqb a p (sym e)
 
 pub owned : (ts : List TypeRow) (s : ℕ) {p : ℕ} {w : TypeRow} → row ts s ≡ w → PartOf p w → owns (row ts s) p ≡ true
 owned ts s {p} e h = ap (λ w. owns w p) e ∙ owns-part h
@@ -76,20 +50,10 @@ pub data Down (ts : List TypeRow) (q p : ℕ) (s k : List ℕ) : Type 0 where
   d_second : {a b : ℕ} → row ts q ≡ Choice a b → p ≡ b → k ≡ s → Down ts q p s k
   d_part : {a : ℕ} → row ts q ≡ Repetition a → p ≡ a → k ≡ q ∷ s → Down ts q p s k
 
-cond-true : (x y : List ℕ) (b : Bool) → b ≡ true → cond b x y ≡ x
-cond-true x y b e = ap (λ (z : Bool). cond z x y) e
-
-cond-false : (x y : List ℕ) (b : Bool) → b ≡ false → cond b x y ≡ y
-cond-false x y b e = ap (λ (z : Bool). cond z x y) e
-
-not-true : (b : Bool) → (b ≡ true → ⊥) → b ≡ false
-not-true true h = absurd (h refl)
-not-true false h = refl
-
 module _ {ts : List TypeRow} (law : Lawful ts) where
   -- the parts of a sequence differ
   apart : (q : ℕ) {a b : ℕ} → row ts q ≡ Sequence a b → b ≡ a → ⊥
-  apart q {a} {b} e h = false-true (sym (law.once q) ∙ (ap twice e ∙ same a b (sym h)))
+  apart q {a} {b} e h = false≢true (sym (law.once q) ∙ (ap twice e ∙ eq-eqb a b (sym h)))
 
   down_by : (q p : ℕ) (s k : List ℕ) (w : TypeRow) → row ts q ≡ w → PartOf p w → k ≡ left_behind w q p s → Down ts q p s k
   down_by q p s k EmptyChoice e x h = elim x [ ]
@@ -99,8 +63,8 @@ module _ {ts : List TypeRow} (law : Lawful ts) where
   down_by q p s k Boolean e x h = elim x [ ]
   down_by q p s k (Element t c) e x h = elim x [ ]
   down_by q p s k (AnyElement c) e x h = elim x [ ]
-  down_by q p s k (Sequence a b) e (left i) h = d_left e i (h ∙ cond-true (b ∷ s) s (eqb p a) (same p a i))
-  down_by q p s k (Sequence a b) e (right i) h = d_right e i (h ∙ cond-false (b ∷ s) s (eqb p a) (not-true (eqb p a) (λ t. apart q e (sym i ∙ known_same p a t))))
+  down_by q p s k (Sequence a b) e (left i) h = d_left e i (h ∙ cond-true (eqb p a) (b ∷ s) s (eq-eqb p a i))
+  down_by q p s k (Sequence a b) e (right i) h = d_right e i (h ∙ cond-false (eqb p a) (b ∷ s) s (false_from_ne_true (eqb p a) (λ t. apart q e (sym i ∙ eqb-true p a t))))
   down_by q p s k (Choice a b) e (first i) h = d_first e i h
   down_by q p s k (Choice a b) e (second i) h = d_second e i h
   down_by q p s k (Repetition a) e (repeats i) h = d_part e i h
@@ -112,10 +76,10 @@ module _ {ts : List TypeRow} (law : Lawful ts) where
   behind-row {q = q} {p} {s} e h i = l_down h (owned ts q e i) (ap (λ x. left_behind x q p s) (sym e))
 
   pub left_of : {r q a b : ℕ} {s : List ℕ} → row ts q ≡ Sequence a b → Left ts r q s → Left ts r a (b ∷ s)
-  left_of {r} {q} {a} {b} {s} e h = subst (Left ts r a) (cond-true (b ∷ s) s (eqb a a) (same a a refl)) (behind-row e h (left refl))
+  left_of {r} {q} {a} {b} {s} e h = subst (Left ts r a) (cond-true (eqb a a) (b ∷ s) s (eq-eqb a a refl)) (behind-row e h (left refl))
 
   pub right_of : {r q a b : ℕ} {s : List ℕ} → row ts q ≡ Sequence a b → Left ts r q s → Left ts r b s
-  right_of {r} {q} {a} {b} {s} e h = subst (Left ts r b) (cond-false (b ∷ s) s (eqb b a) (not-true (eqb b a) (λ t. apart q e (known_same b a t)))) (behind-row e h (right refl))
+  right_of {r} {q} {a} {b} {s} e h = subst (Left ts r b) (cond-false (eqb b a) (b ∷ s) s (false_from_ne_true (eqb b a) (λ t. apart q e (eqb-true b a t)))) (behind-row e h (right refl))
 
   pub first_of : {r q a b : ℕ} {s : List ℕ} → row ts q ≡ Choice a b → Left ts r q s → Left ts r a s
   first_of e h = behind-row e h (first refl)

@@ -1,15 +1,12 @@
 -- What overlaps, and what covers what, by the labels of items.
-use Rattle.std.proofs.Common.{◌≡◌, ℕ, true, false, cond, eqb, ◌⊎◌, Some, None, Option, sym, refl, ap, ◌∙◌, inl, inr, arith}
+use Rattle.std.proofs.Common.{◌≡◌, ℕ, true, cond, eqb, ◌⊎◌, Some, None, Option, sym, refl, ap, ◌∙◌, inl, inr, arith}
+use Rattle.std.proofs.lemmas.Bool.{eqb-true, eq-eqb, false≢true}
 use Rattle.forest.specs.Forests.{Scalar, integer, string, boolean}
 use Rattle.rows.specs.declared.type_row.TypeRow.{TypeRow}
 use Rattle.rows.specs.declared.type_row.TypeRow.TheVariants.{EmptyChoice, EmptySequence, Integer, String, Boolean, Element, AnyElement, Sequence, Choice, Repetition}
 use Rattle.types.specs.Belonging.{scalar_row}
 use Rattle.types.specs.Determinism.{Label, kind, tag, any_tag, label, overlaps, meets, both_meet}
 use Rattle.types.specs.Places.{allows, both_allow, covers}
-use Rattle.types.proofs.Contexts.{same, known_same}
-
-false-true : false ≡ true → ⊥
-false-true e = let z : ◌≡◌ {A = ℕ} 0 1 = cc in omega arith
 
 -- THE ROWS OF A LABEL
 
@@ -59,22 +56,22 @@ covers-overlaps v w e = both_allow_meet (label v) (label w) e
 
 -- a label that one allows
 allowed : (x : Label) (o : Option Label) → both_allow (Some x) o ≡ true → (y : Label) × ((o ≡ Some y) × (allows x y ≡ true))
-allowed x None e = absurd (false-true e)
+allowed x None e = absurd (false≢true e)
 allowed x (Some y) e = (y, (refl, e))
 
 allows-kind : (k : ℕ) (y : Label) → allows (kind k) y ≡ true → y ≡ kind k
-allows-kind k (kind x) e = ap kind (sym (known_same k x e))
-allows-kind k (tag u) e = absurd (false-true e)
-allows-kind k any_tag e = absurd (false-true e)
+allows-kind k (kind x) e = ap kind (sym (eqb-true k x e))
+allows-kind k (tag u) e = absurd (false≢true e)
+allows-kind k any_tag e = absurd (false≢true e)
 
 allows-tag : (t : ℕ) (y : Label) → allows (tag t) y ≡ true → (y ≡ tag t) ⊎ (y ≡ any_tag)
-allows-tag t (kind x) e = absurd (false-true e)
-allows-tag t (tag u) e = inl (ap tag (sym (known_same t u e)))
+allows-tag t (kind x) e = absurd (false≢true e)
+allows-tag t (tag u) e = inl (ap tag (sym (eqb-true t u e)))
 allows-tag t any_tag e = inr refl
 
 allows-any : (y : Label) → allows any_tag y ≡ true → y ≡ any_tag
-allows-any (kind x) e = absurd (false-true e)
-allows-any (tag u) e = absurd (false-true e)
+allows-any (kind x) e = absurd (false≢true e)
+allows-any (tag u) e = absurd (false≢true e)
 allows-any any_tag e = refl
 
 kind_row : (k : ℕ) (w : TypeRow) → Labelled w (kind k) → w ≡ scalar-of k
@@ -111,22 +108,22 @@ covers-any c w e = let h = allowed any_tag (label w) e in any_row w (labelled w 
 -- OVERLAPPING
 
 meets-over : (x y z : Label) → allows x y ≡ true → meets x z ≡ true → meets y z ≡ true
-meets-over (kind k) (kind j) z e h = ap (λ i. meets (kind i) z) (sym (known_same k j e)) ∙ h
-meets-over (kind k) (tag u) z e h = absurd (false-true e)
-meets-over (kind k) any_tag z e h = absurd (false-true e)
-meets-over (tag t) (kind j) z e h = absurd (false-true e)
-meets-over (tag t) (tag u) z e h = ap (λ i. meets (tag i) z) (sym (known_same t u e)) ∙ h
+meets-over (kind k) (kind j) z e h = ap (λ i. meets (kind i) z) (sym (eqb-true k j e)) ∙ h
+meets-over (kind k) (tag u) z e h = absurd (false≢true e)
+meets-over (kind k) any_tag z e h = absurd (false≢true e)
+meets-over (tag t) (kind j) z e h = absurd (false≢true e)
+meets-over (tag t) (tag u) z e h = ap (λ i. meets (tag i) z) (sym (eqb-true t u e)) ∙ h
 meets-over (tag t) any_tag (kind j) e h = h
 meets-over (tag t) any_tag (tag u) e h = refl
 meets-over (tag t) any_tag any_tag e h = refl
-meets-over any_tag (kind j) z e h = absurd (false-true e)
-meets-over any_tag (tag u) z e h = absurd (false-true e)
+meets-over any_tag (kind j) z e h = absurd (false≢true e)
+meets-over any_tag (tag u) z e h = absurd (false≢true e)
 meets-over any_tag any_tag z e h = h
 
 both-over : (x y z : Option Label) → both_allow x y ≡ true → both_meet x z ≡ true → both_meet y z ≡ true
-both-over None y z e h = absurd (false-true e)
-both-over (Some x) None z e h = absurd (false-true e)
-both-over (Some x) (Some y) None e h = absurd (false-true h)
+both-over None y z e h = absurd (false≢true e)
+both-over (Some x) None z e h = absurd (false≢true e)
+both-over (Some x) (Some y) None e h = absurd (false≢true h)
 both-over (Some x) (Some y) (Some z) e h = meets-over x y z e h
 
 -- what overlaps a row overlaps each that covers it
@@ -139,4 +136,4 @@ scalar-covers (string bs) = refl
 scalar-covers (boolean b) = refl
 
 pub tag_meets : (t : ℕ) → eqb t t ≡ true
-tag_meets t = same t t refl
+tag_meets t = eq-eqb t t refl

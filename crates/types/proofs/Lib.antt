@@ -1,4 +1,5 @@
 pub mod Rules
+pub mod Exact
 pub mod OfTable
 pub mod Owed
 pub mod Steps

@@ -1,8 +1,8 @@
 -- Tables of type rows: parts, roots, contents, and the rules on parts.
-use Rattle.std.specs.Prelude.{◌≡◌, ℕ, ◌<◌, ◌≤◌, Bool, true, false, not, ◌&&◌, List, [], ◌∷◌, ◌++◌, length, Some, None, Option, slice_index_or}
+use Rattle.std.specs.Prelude.{◌≡◌, ℕ, ◌<◌, ◌≤◌, true, false, List, length, Some, None, Option, slice_index_or}
 use Rattle.rows.specs.declared.type_row.TypeRow.{TypeRow}
 use Rattle.rows.specs.declared.type_row.TypeRow.TheVariants.{EmptyChoice, EmptySequence, Integer, String, Boolean, Element, AnyElement, Sequence, Choice, Repetition}
-use Rattle.rows.specs.TypeRows.{type_fits, owns, shares, twice}
+use Rattle.rows.specs.TypeRows.{type_fits, owns, twice}
 
 -- row r; past the end of the table it is the empty choice, which has no forest
 abbrev pub row : List TypeRow → ℕ → TypeRow
@@ -42,18 +42,3 @@ pub record Lawful (ts : List TypeRow) : Type 0 where
 pub data Within (ts : List TypeRow) (r : ℕ) : ℕ → Type 0 where
   itself : {p : ℕ} → p ≡ r → Within ts r p
   part : {s p : ℕ} → Within ts r s → owns (row ts s) p ≡ true → Within ts r p
-
--- THE SAME RULES AS TESTS
-
--- no row of the list has a part of this row
-abbrev pub free : List TypeRow → TypeRow → Bool
-free [] r = true
-free (q ∷ qs) r = not (shares r q) && free qs r
-
--- A row keeps the rules behind those before it: its fields are in range, its parts are lower, named once and not owned yet.
-abbrev pub type_right : List TypeRow → TypeRow → Bool
-type_right before r = type_fits (length before) r && (not (twice r) && free before r)
-
-abbrev pub types_lawful : List TypeRow → List TypeRow → Bool
-types_lawful before [] = true
-types_lawful before (r ∷ rs) = type_right before r && types_lawful (before ++ (r ∷ [])) rs

@@ -8,19 +8,13 @@ use rows::TypeRow;
 pub fn overlap(x: TypeRow, y: TypeRow) -> bool
     ensures { result ≡ overlaps x y }
 {
-    match x {
-        TypeRow::Integer => matches!(y, TypeRow::Integer),
-        TypeRow::String => matches!(y, TypeRow::String),
-        TypeRow::Boolean => matches!(y, TypeRow::Boolean),
-        TypeRow::Element { tag, .. } => match y {
-            TypeRow::Element { tag: other, .. } => tag == other,
-            TypeRow::AnyElement { .. } => true,
-            _ => false,
-        },
-        TypeRow::AnyElement { .. } => matches!(
-            y,
-            TypeRow::Element { .. } | TypeRow::AnyElement { .. }
-        ),
+    match (x, y) {
+        (TypeRow::Integer, TypeRow::Integer)
+        | (TypeRow::String, TypeRow::String)
+        | (TypeRow::Boolean, TypeRow::Boolean) => true,
+        (TypeRow::Element { tag, .. }, TypeRow::Element { tag: other, .. }) => tag == other,
+        (TypeRow::AnyElement { .. }, TypeRow::Element { .. } | TypeRow::AnyElement { .. }) => true,
+        (TypeRow::Element { .. }, TypeRow::AnyElement { .. }) => true,
         _ => false,
     }
 }
@@ -29,8 +23,8 @@ pub fn overlap(x: TypeRow, y: TypeRow) -> bool
 pub fn cover(x: TypeRow, y: TypeRow) -> bool
     ensures { result ≡ covers x y }
 {
-    match x {
-        TypeRow::AnyElement { .. } => matches!(y, TypeRow::AnyElement { .. }),
+    match (x, y) {
+        (TypeRow::AnyElement { .. }, TypeRow::Element { .. }) => false,
         _ => overlap(x, y),
     }
 }

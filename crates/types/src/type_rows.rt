@@ -1,9 +1,10 @@
 ghost use Rattle.std.specs.Prelude.{◌≡◌, ◌≤◌, true, [], length, take};
-ghost use Rattle.types.specs.Parts.{types_lawful};
+ghost use Rattle.rows.specs.TypeTables.{types_lawful};
 
 use rows::TypeRow;
 
 /// A table of type rows that keeps the rules on parts.
+// No row is ever added or taken out and only `as_slice` reads the array, so the methods of an array vector would have no use here.
 #[derive(Clone, Copy)]
 pub struct TypeRows {
     pub rows: [TypeRow; 512],

@@ -1,5 +1,5 @@
 -- What is known of the trees of a store, and what a walk along some of them finds.
-use Rattle.std.specs.Prelude.{◌≡◌, ℕ, ◌+◌, ◌*◌, ◌<◌, ◌≤◌, true, List}
+use Rattle.std.specs.Prelude.{◌≡◌, ℕ, ◌+◌, ◌*◌, ◌<◌, true, List, Some, None, Option}
 use Rattle.forest.specs.Forests.{Item, forest}
 use Rattle.forest.specs.Stores.{children_at}
 use Rattle.rows.specs.declared.type_row.TypeRow.{TypeRow}
@@ -18,7 +18,7 @@ pub data PlaceOf (ts : List TypeRow) (root : ℕ) : ℕ → Place → Type 0 whe
   at_start : PlaceOf ts root root (start root)
   behind_item : {x : ℕ} → Within ts root x → PlaceOf ts root (512 + x) (behind root x)
 
--- one item at a place: the item row that takes it, or 512 if none does
-pub record TakesOne (ts : List TypeRow) (q : Place) (i : Item) (m : ℕ) : Type 0 where
-  pub taken : m < 512 → Next ts q m × Admits ts m i
-  pub refused : 512 ≤ m → (n : ℕ) → Next ts q n → Admits ts n i → ⊥
+-- one item at a place: the item row that takes it, or none does
+abbrev pub TakesOne : List TypeRow → Place → Item → Option ℕ → Type 0
+TakesOne ts q i (Some m) = Next ts q m × Admits ts m i
+TakesOne ts q i None = (n : ℕ) → Next ts q n → Admits ts n i → ⊥

@@ -10,22 +10,12 @@ use rows::TypeRow;
 pub(crate) fn suits(row: TypeRow, kind: Kind, tag: u16) -> bool
     ensures { result ≡ suited (label row) (kind_number kind) tag }
 {
-    match kind {
-        Kind::Absent => false,
-        Kind::Integer => matches!(row, TypeRow::Integer),
-        Kind::String => matches!(row, TypeRow::String),
-        Kind::Boolean => matches!(row, TypeRow::Boolean),
-        Kind::Element => takes_tag(row, tag),
-    }
-}
-
-/// Whether a row takes elements of a tag.
-fn takes_tag(row: TypeRow, tag: u16) -> bool
-    ensures { result ≡ suited (label row) 6 tag }
-{
-    match row {
-        TypeRow::Element { tag: wanted, .. } => wanted == tag as u32,
-        TypeRow::AnyElement { .. } => true,
+    match (row, kind) {
+        (TypeRow::Integer, Kind::Integer)
+        | (TypeRow::String, Kind::String)
+        | (TypeRow::Boolean, Kind::Boolean)
+        | (TypeRow::AnyElement { .. }, Kind::Element) => true,
+        (TypeRow::Element { tag: wanted, .. }, Kind::Element) => wanted == u32::from(tag),
         _ => false,
     }
 }

@@ -7,4 +7,4 @@ pub returns : goal.returns
 returns g c =
     let one : SFits w64 c.args.first = c.ranges.first in
     let two : SFits w64 c.args.second = c.ranges.second in
-    both-stand g.S.Store.layer (g.S.Store.means c.args.store.now) (g.S.Store.means c.make_integer.new.self) (g.S.Store.means c.make_integer-2.new.self) c.args.first c.args.second c.in_ok-one.one c.in_ok-two.two (simp to_z-of_z at c.in_ok-one.ensures) (simp to_z-of_z at c.in_ok-two.ensures)
+    both-stand g.S.Store.LAYER (g.S.Store.means c.args.store.now) (g.S.Store.means c.make_integer.new.self) (g.S.Store.means c.make_integer-2.new.self) c.args.first c.args.second c.in_ok-one.one c.in_ok-two.two (simp to_z-of_z at c.in_ok-one.ensures) (simp to_z-of_z at c.in_ok-two.ensures)

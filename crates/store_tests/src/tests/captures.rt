@@ -1,5 +1,5 @@
 use crate::tests::making::check_full;
-use crate::tests::reading::{Tree, check_trees, children, text};
+use crate::tests::reading::{Tree, check_missing, check_trees, children, text};
 use capture::Capture;
 use forest::{Failure, Fault, Reason, Store};
 use std::alloc::{AllocError, Global};
@@ -36,61 +36,37 @@ pub const TWO_EVENTS_TREES: [(u32, Tree); 19] = [
 const EVENT: [u8; 8] = [0, 0, 0, 0, 0, 0x80, 60, 64];
 
 fn unlawful(row: u32) -> Failure {
-    Failure::Refused(Fault {
-        reason: Reason::UnlawfulCapture,
-        layer: 5,
-        row,
-    })
+    Failure::Refused(Fault::new(Reason::UnlawfulCapture, 5, row))
 }
 
 /// Checks how many trees the capture of these bytes has, or which event is refused.
-fn check_count(
-    rt: &impl Abort,
-    heap: Global,
-    bytes: &[u8],
-    wanted: Result<u32, u32>,
-) -> Result<(), Fail> {
-    let answer = match Capture::load(heap, bytes) {
-        Ok(capture) => Ok(capture.count()),
-        Err(failure) => Err(failure),
-    };
-    match wanted {
-        Ok(count) => {
-            assert_eq!(rt; answer, Ok(count));
-            Ok(())
-        },
-        Err(row) => {
-            assert_eq!(rt; answer, Err(unlawful(row)));
-            Ok(())
-        },
-    }
+fn check_count(rt: &impl Abort, alloc: Global, bytes: &[u8], wanted: Result<u32, u32>) {
+    let answer = Capture::load(alloc, bytes).map(|capture| capture.count());
+    assert_eq!(rt; answer, wanted.map_err(unlawful));
 }
 
 /// Events at time 0, cut to so many bytes, and then so many zeros. Eight zeros are an unlawful event.
-fn events(heap: Global, length: usize, zeros: usize) -> Result<Vec<u8>, AllocError> {
-    let mut bytes = Vec::new(heap);
-    for index in 0..length {
-        bytes.push(EVENT[index % 8])?;
-    }
-    bytes.extend_from_slice(&vec![in heap; 0; zeros]?)?;
+fn events(alloc: Global, length: usize, zeros: usize) -> Result<Vec<u8>, AllocError> {
+    let mut bytes: Vec<u8> = EVENT.iter().copied().cycle().take(length).collect(alloc)?;
+    bytes.extend_from_slice(&vec![in alloc; 0; zeros]?)?;
     Ok(bytes)
 }
 
 /// Checks captures of so many bytes of events and so many zeros.
 fn check_sizes(
     rt: &impl Abort,
-    heap: Global,
+    alloc: Global,
     cases: &[(usize, usize, Result<u32, u32>)],
 ) -> Result<(), Fail> {
     for (length, zeros, wanted) in cases {
-        check_count(rt, heap, &events(heap, *length, *zeros)?, *wanted)?;
+        check_count(rt, alloc, &events(alloc, *length, *zeros)?, *wanted);
     }
     Ok(())
 }
 
 /// An event at each of these times.
-fn events_at(heap: Global, times: [u32; 3]) -> Result<Vec<u8>, AllocError> {
-    let mut bytes = Vec::new(heap);
+fn events_at(alloc: Global, times: [u32; 3]) -> Result<Vec<u8>, AllocError> {
+    let mut bytes = Vec::new(alloc);
     for time in times {
         bytes.extend_from_slice(&time.to_be_bytes())?;
         bytes.extend_from_slice(&EVENT[4..8])?;
@@ -101,30 +77,30 @@ fn events_at(heap: Global, times: [u32; 3]) -> Result<Vec<u8>, AllocError> {
 /// Checks captures of an event at each of these times.
 fn check_times(
     rt: &impl Abort,
-    heap: Global,
+    alloc: Global,
     cases: &[([u32; 3], Result<u32, u32>)],
 ) -> Result<(), Fail> {
     for (times, wanted) in cases {
-        check_count(rt, heap, &events_at(heap, *times)?, *wanted)?;
+        check_count(rt, alloc, &events_at(alloc, *times)?, *wanted);
     }
     Ok(())
 }
 
 /// The tag of a single event with this queue, status, note and velocity.
-fn tag(heap: Global, fields: [u8; 4]) -> Result<u16, Failure> {
+fn tag(alloc: Global, fields: [u8; 4]) -> Result<u16, Failure> {
     let [queue, status, note, velocity] = fields;
     let bytes = [0, 0, 0, 0, queue, status, note, velocity];
-    Ok(Capture::load(heap, &bytes)?.tag(1))
+    Ok(Capture::load(alloc, &bytes)?.tag(1))
 }
 
 /// Checks the tag of a single event with these fields, or that it is refused.
-fn check_tags(rt: &impl Abort, heap: Global, cases: &[([u8; 4], Option<u16>)]) {
+fn check_tags(rt: &impl Abort, alloc: Global, cases: &[([u8; 4], Option<u16>)]) {
     for (fields, wanted) in cases {
         let answer = match *wanted {
             Some(tag) => Ok(tag),
             None => Err(unlawful(0)),
         };
-        assert_eq!(rt; (*fields, tag(heap, *fields)), (*fields, answer));
+        assert_eq!(rt; (*fields, tag(alloc, *fields)), (*fields, answer));
     }
 }
 
@@ -202,11 +178,7 @@ fn event_trees_stand_in_order(rt: HostRuntime) -> Result<(), Fail> {
 #[test]
 fn what_a_capture_lacks_reads_zero(rt: HostRuntime) -> Result<(), Fail> {
     let capture = Capture::load(rt.alloc(), TWO_EVENTS)?;
-    check_trees(
-        &rt,
-        &capture,
-        &[(19, Tree::Absent), (u32::MAX, Tree::Absent)],
-    );
+    check_missing(&rt, &capture, &[19, u32::MAX]);
     assert_eq!(rt; children(&capture, 18), [0; 5]);
     assert_eq!(rt; children(&capture, 19), [0; 5]);
     assert_eq!(rt; text(&capture, 18), [0; 5]);
@@ -222,17 +194,14 @@ fn capture_refuses_to_make(rt: HostRuntime) -> Result<(), Fail> {
 
 #[test]
 fn last_of_a_thousand_events_stands_at_8992(rt: HostRuntime) -> Result<(), Fail> {
-    let heap = rt.alloc();
-    let capture = Capture::load(heap, &events(heap, 8000, 0)?)?;
+    let alloc = rt.alloc();
+    let capture = Capture::load(alloc, &events(alloc, 8000, 0)?)?;
     assert_eq!(rt; capture.child(0, 999), 8992);
     check_trees(
         &rt,
         &capture,
-        &[
-            (8992, Tree::Element(3, 4)),
-            (9000, Tree::Integer(64)),
-            (9001, Tree::Absent),
-        ],
+        &[(8992, Tree::Element(3, 4)), (9000, Tree::Integer(64))],
     );
+    check_missing(&rt, &capture, &[9001]);
     Ok(())
 }

@@ -31,11 +31,7 @@ fn make_out_of_range<S: Store>(store: &mut S) -> [Result<u32, Fault>; 6] {
 }
 
 fn refusal(reason: Reason, layer: u8) -> Result<u32, Fault> {
-    Err(Fault {
-        reason,
-        layer,
-        row: 0,
-    })
+    Err(Fault::new(reason, layer, 0))
 }
 
 /// Checks that a store of this layer has no space for any tree, refuses first what is out of range, and is left as it was.

@@ -1,6 +1,6 @@
 use crate::tests::captures::{TWO_EVENTS, TWO_EVENTS_TREES};
 use crate::tests::making::{check_full, space_left};
-use crate::tests::reading::{Tree, check_trees, children, text};
+use crate::tests::reading::{Tree, check_missing, check_trees, children, text};
 use capture::Capture;
 use forest::{Failure, Fault, Reason, Space, Store};
 use overlay::Overlay;
@@ -16,7 +16,7 @@ const SHORT: Result<u32, Fault> = Err(Fault {
 
 /// Opens an overlay that allows so many trees, child entries and bytes.
 fn open<S: Store + Drop>(
-    heap: Global,
+    alloc: Global,
     below: S,
     allowances: [u32; 3],
 ) -> Result<Overlay<S>, Failure> {
@@ -26,10 +26,7 @@ fn open<S: Store + Drop>(
         children,
         bytes,
     };
-    match Overlay::open(heap, below, space) {
-        Ok(store) => Ok(store),
-        Err(_) => Err(Failure::OutOfMemory),
-    }
+    Overlay::open(alloc, below, space).map_err(|_below| Failure::OutOfMemory)
 }
 
 /// What to make.
@@ -55,36 +52,36 @@ fn make<S: Store>(store: &mut S, making: Making) -> Outcome {
 }
 
 /// Makes a tree above the one tree of a capture with no events, with these allowances.
-fn make_over_one(heap: Global, making: Making, allowances: [u32; 3]) -> Result<Outcome, Failure> {
-    let mut store = open(heap, Capture::load(heap, &[])?, allowances)?;
+fn make_over_one(alloc: Global, making: Making, allowances: [u32; 3]) -> Result<Outcome, Failure> {
+    let mut store = open(alloc, Capture::load(alloc, &[])?, allowances)?;
     Ok(make(&mut store, making))
 }
 
 /// Checks what comes of each making with these allowances.
 fn check_makings(
     rt: &impl Abort,
-    heap: Global,
+    alloc: Global,
     cases: &[(Making, [u32; 3], Outcome)],
 ) -> Result<(), Fail> {
     for (making, allowances, outcome) in cases {
-        assert_eq!(rt; make_over_one(heap, *making, *allowances)?, *outcome);
+        assert_eq!(rt; make_over_one(alloc, *making, *allowances)?, *outcome);
     }
     Ok(())
 }
 
 /// An overlay over two events.
-fn open_over_events(heap: Global, allowances: [u32; 3]) -> Result<Overlay<Capture>, Failure> {
-    open(heap, Capture::load(heap, TWO_EVENTS)?, allowances)
+fn open_over_events(alloc: Global, allowances: [u32; 3]) -> Result<Overlay<Capture>, Failure> {
+    open(alloc, Capture::load(alloc, TWO_EVENTS)?, allowances)
 }
 
 /// An overlay over an overlay over two events, which has one tree and space for more.
 fn open_over_overlay(
-    heap: Global,
+    alloc: Global,
     allowances: [u32; 3],
 ) -> Result<Overlay<Overlay<Capture>>, Failure> {
-    let mut lower = open_over_events(heap, [9, 9, 9])?;
+    let mut lower = open_over_events(alloc, [9, 9, 9])?;
     let _made = make(&mut lower, Making::Integer);
-    open(heap, lower, allowances)
+    open(alloc, lower, allowances)
 }
 
 /// Makes a tree of each kind above the trees of two events, and checks what then stands above and below.
@@ -105,9 +102,9 @@ fn check_each_kind_made<S: Store>(rt: &impl Abort, store: &S) {
             (20, Tree::Integer(-5)),
             (21, Tree::Boolean(1)),
             (22, Tree::Element(300, 4)),
-            (23, Tree::Absent),
         ],
     );
+    check_missing(rt, store, &[23]);
     assert_eq!(rt; text(store, 19), *b"hi\0\0\0");
     assert_eq!(rt; children(store, 22), [10, 19, 20, 21, 0]);
     check_trees(rt, store, &TWO_EVENTS_TREES);
@@ -199,6 +196,22 @@ fn full_overlay_refuses_out_of_range_first(rt: HostRuntime) -> Result<(), Fail> 
 #[test]
 fn overlay_stands_over_an_overlay(rt: HostRuntime) -> Result<(), Fail> {
     let mut store = open_over_overlay(rt.alloc(), [1, 2, 0])?;
+    check_element_above(&rt, &mut store);
+    Ok(())
+}
+
+#[test]
+fn renewed_overlay_stands_as_over_itself(rt: HostRuntime) -> Result<(), Fail> {
+    let mut lower = open_over_events(rt.alloc(), [9, 9, 9])?;
+    let _made = make(&mut lower, Making::Integer);
+    let space = Space {
+        trees: 1,
+        children: 2,
+        bytes: 0,
+    };
+    let mut store = lower
+        .renew(rt.alloc(), space)
+        .map_err(|_lower| Failure::OutOfMemory)?;
     check_element_above(&rt, &mut store);
     Ok(())
 }

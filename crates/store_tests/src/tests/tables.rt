@@ -1,5 +1,5 @@
 use crate::tests::making::check_full;
-use crate::tests::reading::{Tree, check_trees, children, text};
+use crate::tests::reading::{Tree, check_missing, check_trees, children, text};
 use forest::{Failure, Fault, Reason, Store};
 use std::alloc::Global;
 use std::process::Abort;
@@ -42,60 +42,52 @@ fn raw_row(kind: u8, tag: u32, from: u32, length: u32, value: i64) -> RawRow {
 }
 
 fn unlawful(row: u32) -> Failure {
-    Failure::Refused(Fault {
-        reason: Reason::UnlawfulTable,
-        layer: 4,
-        row,
-    })
+    Failure::Refused(Fault::new(Reason::UnlawfulTable, 4, row))
 }
 
 /// How many trees a table has.
-fn count(heap: Global, rows: &[RawRow], children: &[u32], text: &[u8]) -> Result<u32, Failure> {
-    Ok(Table::load(heap, rows, children, text)?.count())
+fn count(alloc: Global, rows: &[RawRow], children: &[u32], text: &[u8]) -> Result<u32, Failure> {
+    Ok(Table::load(alloc, rows, children, text)?.count())
 }
 
 /// How many trees a table has with so many lawful rows, child entries and bytes, and two rows more.
-fn count_of_size(heap: Global, sizes: [usize; 3], more: [Row; 2]) -> Result<u32, Failure> {
+fn count_of_size(alloc: Global, sizes: [usize; 3], more: [Row; 2]) -> Result<u32, Failure> {
     let [row_count, child_count, text_length] = sizes;
     let [first, second] = more;
-    let mut rows = vec![in heap; Row::Integer(7).raw(); row_count]?;
+    let mut rows = vec![in alloc; Row::Integer(7).raw(); row_count]?;
     rows.push(first.raw())?;
     rows.push(second.raw())?;
-    let children = vec![in heap; 0u32; child_count]?;
-    let text = vec![in heap; 0u8; text_length]?;
-    count(heap, &rows, &children, &text)
+    let children = vec![in alloc; 0u32; child_count]?;
+    let text = vec![in alloc; 0u8; text_length]?;
+    count(alloc, &rows, &children, &text)
 }
 
 /// Checks how many trees such a table has, or which row is refused.
-fn check_sizes(rt: &impl Abort, heap: Global, cases: &[([usize; 3], [Row; 2], Result<u32, u32>)]) {
+fn check_sizes(rt: &impl Abort, alloc: Global, cases: &[([usize; 3], [Row; 2], Result<u32, u32>)]) {
     for (sizes, more, wanted) in cases {
-        let answer = match *wanted {
-            Ok(count) => Ok(count),
-            Err(row) => Err(unlawful(row)),
-        };
         assert_eq!(rt;
-            (*sizes, count_of_size(heap, *sizes, *more)),
-            (*sizes, answer)
+            (*sizes, count_of_size(alloc, *sizes, *more)),
+            (*sizes, wanted.map_err(unlawful))
         );
     }
 }
 
 /// How many trees a table has whose second row is this one. Its child entries are 0 and 1, and its text has 4 bytes.
-fn count_with(heap: Global, row: Row) -> Result<u32, Failure> {
-    count(heap, &[Row::Integer(7).raw(), row.raw()], &[0, 1], b"text")
+fn count_with(alloc: Global, row: Row) -> Result<u32, Failure> {
+    count(alloc, &[Row::Integer(7).raw(), row.raw()], &[0, 1], b"text")
 }
 
 /// Checks that these may be a table's second row.
-fn check_lawful(rt: &impl Abort, heap: Global, rows: &[Row]) {
+fn check_lawful(rt: &impl Abort, alloc: Global, rows: &[Row]) {
     for (index, row) in rows.iter().enumerate() {
-        assert_eq!(rt; (index, count_with(heap, *row)), (index, Ok(2)));
+        assert_eq!(rt; (index, count_with(alloc, *row)), (index, Ok(2)));
     }
 }
 
 /// Checks that each of these is refused as a table's second row.
-fn check_unlawful(rt: &impl Abort, heap: Global, rows: &[Row]) {
+fn check_unlawful(rt: &impl Abort, alloc: Global, rows: &[Row]) {
     for (index, row) in rows.iter().enumerate() {
-        assert_eq!(rt; (index, count_with(heap, *row)), (index, Err(unlawful(1))));
+        assert_eq!(rt; (index, count_with(alloc, *row)), (index, Err(unlawful(1))));
     }
 }
 
@@ -136,10 +128,10 @@ fn first_unlawful_row_is_named(rt: HostRuntime) {
 
 #[test]
 fn row_fields_are_in_range(rt: HostRuntime) {
-    let heap = rt.alloc();
+    let alloc = rt.alloc();
     check_lawful(
         &rt,
-        heap,
+        alloc,
         &[
             Row::Kind(3),
             Row::Kind(4),
@@ -155,7 +147,7 @@ fn row_fields_are_in_range(rt: HostRuntime) {
     );
     check_unlawful(
         &rt,
-        heap,
+        alloc,
         &[
             Row::Kind(2),
             Row::Kind(7),
@@ -171,11 +163,11 @@ fn row_fields_are_in_range(rt: HostRuntime) {
 
 #[test]
 fn children_are_lower_rows(rt: HostRuntime) {
-    let heap = rt.alloc();
-    check_lawful(&rt, heap, &[Row::Element(9, 0, 1), Row::Element(9, 2, 0)]);
+    let alloc = rt.alloc();
+    check_lawful(&rt, alloc, &[Row::Element(9, 0, 1), Row::Element(9, 2, 0)]);
     check_unlawful(
         &rt,
-        heap,
+        alloc,
         &[
             Row::Element(9, 1, 1),
             Row::Element(9, 0, 2),
@@ -187,15 +179,15 @@ fn children_are_lower_rows(rt: HostRuntime) {
 
 #[test]
 fn strings_lie_within_the_text(rt: HostRuntime) {
-    let heap = rt.alloc();
+    let alloc = rt.alloc();
     check_lawful(
         &rt,
-        heap,
+        alloc,
         &[Row::String(0, 4), Row::String(3, 1), Row::String(4, 0)],
     );
     check_unlawful(
         &rt,
-        heap,
+        alloc,
         &[
             Row::String(0, 5),
             Row::String(3, 2),
@@ -223,9 +215,9 @@ fn rows_read_back_whatever_unused_fields_hold(rt: HostRuntime) -> Result<(), Fai
             (1, Tree::String(2)),
             (2, Tree::Boolean(1)),
             (3, Tree::Element(300, 3)),
-            (4, Tree::Absent),
         ],
     );
+    check_missing(&rt, &table, &[4]);
     assert_eq!(rt; text(&table, 1), *b"ex\0\0\0");
     assert_eq!(rt; children(&table, 3), [2, 0, 1, 0, 0]);
     Ok(())

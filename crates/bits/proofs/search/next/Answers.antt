@@ -1,6 +1,6 @@
 use Rattle.std.proofs.Common.{◌/◌, arith}
 use Rattle.bits.proofs.Laws.{bit_past}
-use Rattle.bits.proofs.Walk.{clear-on, clear-word, clear_first, set_first, next-none}
+use Rattle.bits.proofs.Walk.{clear-on, clear-word, clear_first, set_first, clear-none}
 use Rattle.bits.proofs.search.next.Goals as goal
 
 pub returns-then-zeros-left : goal.returns-then-zeros-left
@@ -9,11 +9,10 @@ returns-then-zeros-left c =
     let at = c.loop-at.at in
     let fits = c.type_inv.words (at / 64) in
     record {
-      within = omega arith;
-      passed = clear-on ws c.args.from at _ _ (omega arith) c.loop-at.invariant.2 (clear_first ws at fits.fits (omega arith));
-      after = λ h. omega arith;
-      here = λ h. set_first ws at fits.fits (omega arith);
-      empty = λ h. absurd (omega arith);
+      low = omega arith;
+      below = omega arith;
+      before = clear-none ws c.args.from _ (clear-on ws c.args.from at _ _ (omega arith) c.loop-at.invariant.1 (clear_first ws at fits.fits (omega arith)));
+      here = set_first ws at fits.fits (omega arith);
     }
 
 pub returns-else-zeros-left : goal.returns-else-zeros-left
@@ -21,21 +20,21 @@ returns-else-zeros-left c =
     let ws = c.args.words.now in
     let at = c.loop-at.at in
     let fits = c.type_inv.words (at / 64) in
-    next-none ws c.args.from c.args.end (clear-on ws c.args.from at _ _ (omega arith) c.loop-at.invariant.2 (clear_first ws at fits.fits (omega arith)))
+    clear-none ws c.args.from c.args.end (clear-on ws c.args.from at _ _ (omega arith) c.loop-at.invariant.1 (clear_first ws at fits.fits (omega arith)))
 
 pub returns-then-left-step : goal.returns-then-left-step
 returns-then-left-step c =
     let ws = c.args.words.now in
     let at = c.loop-at.at in
-    next-none ws c.args.from c.args.end (clear-on ws c.args.from at _ _ (omega arith) c.loop-at.invariant.2 (clear-word ws at (omega arith)))
+    clear-none ws c.args.from c.args.end (clear-on ws c.args.from at _ _ (omega arith) c.loop-at.invariant.1 (clear-word ws at (omega arith)))
 
 pub loop-at-preserved : goal.loop-at-preserved
 loop-at-preserved c =
     let ws = c.args.words.now in
     let at = c.loop-at.at in
-    (omega arith, omega arith, clear-on ws c.args.from at _ _ (omega arith) c.loop-at.invariant.2 (clear-word ws at (omega arith)))
+    (omega arith, clear-on ws c.args.from at _ _ (omega arith) c.loop-at.invariant.1 (clear-word ws at (omega arith)))
 
-pub returns : goal.returns
-returns c =
+pub returns-else-at-words : goal.returns-else-at-words
+returns-else-at-words c =
     let ws = c.args.words.now in
-    next-none ws c.args.from c.args.end (clear-on ws c.args.from c.loop-at.at c.args.end _ (omega arith) c.loop-at.invariant.2 (λ j l h. bit_past ws j (omega arith)))
+    clear-none ws c.args.from c.args.end (clear-on ws c.args.from c.loop-at.at c.args.end _ (omega arith) c.loop-at.invariant.1 (λ j l h. bit_past ws j (omega arith)))

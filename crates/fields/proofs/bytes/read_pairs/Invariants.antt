@@ -1,10 +1,9 @@
-use Rattle.std.proofs.Common.{◌≡◌, length, vec_items}
+use Rattle.std.proofs.Common.{◌≡◌, vec_items}
+use Rattle.std.specs.Slice.Iter.{chunks_rest, chunks_size}
 use Rattle.fields.specs.Bytes.{hex_pairs}
 use Rattle.fields.proofs.Pairs.{onto}
 use Rattle.fields.proofs.bytes.read_pairs.Given as goal
 
-abbrev pub invariant-loop-rest : goal.invariant-loop-rest
-invariant-loop-rest l = onto (vec_items l.bytes) (hex_pairs l.rest) ≡ hex_pairs l.digits
-
-abbrev pub decreases-loop-rest : goal.decreases-loop-rest
-decreases-loop-rest l = length l.rest
+abbrev pub invariant-loop-pair : goal.invariant-loop-pair
+invariant-loop-pair l =
+    (onto (vec_items l.bytes) (hex_pairs (chunks_rest l.pair-iterator)) ≡ hex_pairs l.digits) × (chunks_size l.pair-iterator ≡ 2)

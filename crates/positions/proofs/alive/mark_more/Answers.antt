@@ -1,14 +1,24 @@
-use Rattle.std.proofs.Common.{T, sym, ◌∙◌, subst, arith}
-use Rattle.positions.proofs.Marks.{pass_start, pass_mark, pass_skip}
+use Rattle.std.proofs.Common.{◌+◌, Bool, true, List, T, sym, ◌∙◌, subst, arith}
+use Rattle.types.specs.Parts.{Lawful}
+use Rattle.positions.specs.Life.{Pass}
+use Rattle.positions.proofs.Marks.{pass_mark, pass_skip}
 use Rattle.positions.proofs.alive.mark_more.Goals as goal
-use Rattle.positions.proofs.alive.mark_more.Goals.{then-not-marked+then-new, then-not-marked+else-new, else-not-marked}
-
-pub loop-place-init : goal.loop-place-init
-loop-place-init c = pass_start c.args.rows.now c.args.alive.now
+use Rattle.positions.proofs.alive.mark_more.Goals.{then-not-has+then-has_forest, else-not-has, else-not-has-via-then-not-has+else-has_forest, else-not-has-via-else-not-has}
 
 pub loop-place-preserved : goal.loop-place-preserved
-loop-place-preserved c = elim c.if-not-marked.branch [
-  | then-not-marked+then-new w ↦ simp (w.alive-is, w.changed-is) (pass_mark c.requires.lawful c.args.alive.now c.loop-place.alive c.loop-place.place c.loop-place.changed c.loop-place.invariant (omega arith) w.if-not-marked.true (subst T (sym w.if-new.true ∙ w.has_forest-new.ensures) tt))
-  | then-not-marked+else-new w ↦ simp (w.alive-is, w.changed-is) (pass_skip c.requires.lawful c.args.alive.now c.loop-place.alive c.loop-place.place c.loop-place.changed c.loop-place.invariant (λ a. absurd (subst T (sym w.has_forest-new.ensures ∙ w.if-new.false) a)))
-  | else-not-marked w ↦ simp (w.alive-is, w.changed-is) (pass_skip c.requires.lawful c.args.alive.now c.loop-place.alive c.loop-place.place c.loop-place.changed c.loop-place.invariant (λ a. subst T (sym w.if-not-marked.false) tt))
-]
+loop-place-preserved c =
+    let ts = c.as_slice-rows.result.now in
+    let law : Lawful ts = subst Lawful (sym c.as_slice-rows.ensures.rows) c.as_slice-rows.ensures.lawful in
+    let old = c.args.alive.now.marks in
+    let v = c.loop-place.alive.marks in
+    let long = c.loop-place.alive.long in
+    let few = c.as_slice-rows.ensures.few in
+    let k = c.loop-place.place in
+    let p = c.loop-place.invariant in
+    elim c.if-not-has.branch [
+      | then-not-has+then-has_forest w ↦ simp (w.alive-is, w.changed-is) (subst (λ (m : List Bool). Pass ts old m (k + 1) true) (sym w.set.ensures) (pass_mark law old v k c.loop-place.changed p (omega arith) (sym c.has.ensures ∙ w.if-not-has.true) (subst T (sym w.if-has_forest.true ∙ w.has_forest.ensures) tt)))
+      | else-not-has w ↦ simp (w.alive-is, w.changed-is) (pass_skip law old v k c.loop-place.changed p (elim w.else-not-has.branch [
+        | else-not-has-via-then-not-has+else-has_forest u ↦ (λ a. absurd (subst T (sym u.has_forest.ensures ∙ u.if-has_forest.false) a))
+        | else-not-has-via-else-not-has u ↦ (λ a. subst T (sym u.if-not-has.false ∙ c.has.ensures) tt)
+      ]))
+    ]

@@ -1,18 +1,23 @@
-use Rattle.std.proofs.Common.{◌≡◌, ℕ, ◌+◌, get_or, arith, below_more}
-use Rattle.positions.specs.Filling.{Clear}
+use Rattle.std.proofs.Common.{length, take, rules, arith}
+use borrow.Author.Tests.{tests}
+use Rattle.std.proofs.lemmas.Iterator.{cases_from_all, YieldsList-from_slice}
+use Rattle.std.proofs.lemmas.Iterator.Consumers.{YieldsList-from_enumerate}
+use Rattle.std.proofs.lemmas.List.{get_or-take, length-take-le}
+use Rattle.types.specs.Tables.{rows_of}
+use Rattle.types.proofs.OfTable.{table-lawful}
+use Rattle.positions.proofs.Overlaps.{ClearBehind, items_clear_by}
 use Rattle.positions.proofs.determinism.items_clear.Goals as goal
-use Rattle.positions.proofs.determinism.items_clear.Goals.{else-tops-place-via-then-tops-place+else-not-is_clear, else-tops-place-via-else-tops-place}
-
-pub loop-place-preserved : goal.loop-place-preserved
-loop-place-preserved c =
-    below_more (λ (p : ℕ). get_or c.args.tops.now p 0 ≡ c.args.root → Clear c.args.rows.now c.args.words.now (512 + p)) c.loop-place.place c.loop-place.invariant
-    (λ e. elim c.else-tops-place.branch [
-      | else-tops-place-via-then-tops-place+else-not-is_clear w ↦ w.if-not-is_clear.ensures.0 tt
-      | else-tops-place-via-else-tops-place w ↦ absurd (w.if-tops-place.false e)
-    ])
-
-pub returns-then-not-is_clear : goal.returns-then-not-is_clear
-returns-then-not-is_clear c = (λ x. absurd x, λ h. c.if-not-is_clear.ensures.1 (h c.loop-place.place c.loop-place-test.true c.if-tops-place.true))
 
 pub returns : goal.returns
-returns c = (λ x p l. c.loop-place.invariant p (omega arith), λ x. tt)
+returns c =
+    let ts = rows_of c.args.types.now in
+    let ws = c.args.next.now.words in
+    let tops = c.args.tops.now in
+    let root = c.args.root in
+    let xs = take (length ts) tops in
+    let law = table-lawful c.args.types.now in
+    let few = law.few in
+    let long = c.requires in
+    items_clear_by ts ws tops root c.all.result xs (length-take-le (length ts) tops (omega arith)) (λ k l. get_or-take (length ts) tops k 0 l)
+    (cases_from_all c.all.new.self _ c.all.result (ClearBehind ts ws tops root) (λ p. ClearBehind ts ws tops root p → ⊥) c.all.ensures.ran
+    (YieldsList-from_enumerate (YieldsList-from_slice xs (search rules)) (search rules)) (λ x q k. search (rules, tests)) (λ x q k. search (rules, tests)))

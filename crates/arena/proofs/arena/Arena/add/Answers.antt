@@ -3,23 +3,13 @@ use Rattle.arena.specs.Rows.{built, sound, row_sound}
 use Rattle.arena.proofs.Builds.{sound-push, built-push, length-built}
 use Rattle.arena.proofs.arena.Arena.add.Goals as goal
 
-pub invariant_of-self : goal.invariant_of-self
-invariant_of-self c =
+pub invariant_of-self-clause-good : goal.invariant_of-self-clause-good
+invariant_of-self-clause-good c =
     let a = c.args.self.now in
     let es = vec_items a.children in
     let bs = vec_items a.text in
     let good : row_sound (a.base + length (vec_items a.rows)) es bs c.args.row ≡ true = ap (λ n. row_sound (a.base + n) es bs c.args.row) (sym a.rows.ok.0) ∙ c.requires.good in
-    record {
-      good = ap (sound a.base es bs) c.push_reserved.ensures.items ∙ sound-push a.base es bs (vec_items a.rows) c.args.row a.good good;
-      bytes = a.bytes;
-      base_few = search rules;
-      rows_few = search rules;
-      children_few = search rules;
-      text_few = search rules;
-      rows_reserved = search rules;
-      children_reserved = search rules;
-      text_reserved = search rules;
-    }
+    ap (sound a.base es bs) c.push_reserved.ensures.items ∙ sound-push a.base es bs (vec_items a.rows) c.args.row a.good good
 
 pub returns : goal.returns
 returns c =

@@ -1,6 +1,9 @@
-use Rattle.std.proofs.Common.{◌∙◌}
-use Rattle.arena.proofs.Reading.{kind-is}
+use Rattle.std.proofs.Common.{rules}
+use Rattle.arena.specs.Arenas.{Found}
+use Rattle.arena.proofs.Reading.{kind-read}
 use Rattle.arena.proofs.arena.Arena.kind.Goals as goal
 
 pub returns : goal.returns
-returns c = λ ts e le. c.kind_of.ensures ∙ kind-is c.args.self.now c.args.handle c.row.result c.row.ensures ts e le
+returns c =
+    let found : Found c.args.self.now c.args.handle c.row.result = search rules in
+    kind-read _ _ _ _ found c.map.ensures.cases

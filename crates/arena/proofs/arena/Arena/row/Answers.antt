@@ -1,29 +1,13 @@
-use Rattle.std.proofs.Common.{◌≡◌, ◌+◌, ◌-◌, ◌<◌, true, length, get_or, vec_items, sym, ap, ◌∙◌, arith}
-use Rattle.arena.specs.Rows.{row_item, row_sound, built, sound}
-use Rattle.arena.proofs.Builds.{length-built, tree_is, sound-at}
+use Rattle.std.proofs.Common.{◌≡◌, ◌-◌, slice_get, Option, vec_items, sym, ap, ◌∙◌, subst}
+use Rattle.arena.specs.declared.row.Row.{Row}
+use Rattle.arena.specs.Arenas.{Found}
+use Rattle.arena.proofs.Reading.{copied-is, found}
 use Rattle.arena.proofs.arena.Arena.row.Goals as goal
 
-pub returns-then-index-len : goal.returns-then-index-len
-returns-then-index-len c =
+pub returns : goal.returns
+returns c =
     let a = c.args.self.now in
-    let es = vec_items a.children in
-    let bs = vec_items a.text in
-    let rs = vec_items a.rows in
-    let i = c.args.handle - a.base in
-    let r = c.index.result.now in
-    λ ts e.
-    let long = length-built ts es bs rs in
-    let lt : i < length rs = omega (arith, a.rows.ok.0) in
-    let at : length ts + i ≡ c.args.handle = omega arith in
-    let good : sound (length ts) es bs rs ≡ true = ap (λ n. sound n es bs rs) e ∙ a.good in
-    let is = sym c.index.ensures in
-    record {
-      there = omega arith;
-      is = λ d. ap (λ h. get_or (built ts es bs rs) h d) (sym at) ∙ tree_is ts es bs rs i d r good lt ∙ ap (row_item (built ts es bs rs) es bs) is;
-      good = ap (λ h. row_sound h es bs r) (sym at) ∙ ap (row_sound (length ts + i) es bs) (sym is) ∙ sound-at (length ts) es bs rs i r good lt;
-    }
-
-pub returns-else-index-len : goal.returns-else-index-len
-returns-else-index-len c =
-    let a = c.args.self.now in
-    λ ts e le. omega (arith, length-built ts (vec_items a.children) (vec_items a.text) (vec_items a.rows), a.rows.ok.0)
+    let at = c.in_ok-index.ensures in
+    let look = c.get.ensures.lookup in
+    let is : c.copied.result ≡ slice_get (vec_items a.rows) (c.args.handle - a.base) = c.copied.ensures ∙ copied-is c.get.result c.deref.result.now c.in_ok-index.index _ look.3 look.1 ∙ ap (λ xs. slice_get xs c.in_ok-index.index) c.deref.ensures.value ∙ ap (slice_get (vec_items a.rows)) at.1 in
+    subst (λ (o : Option Row). Found a c.args.handle o) (sym is) (found a c.args.handle at.0)

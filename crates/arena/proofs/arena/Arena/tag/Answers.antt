@@ -1,6 +1,7 @@
-use Rattle.std.proofs.Common.{◌∙◌}
-use Rattle.arena.proofs.Reading.{tag_is}
+use Rattle.forest.specs.Stores.{item_tag}
+use Rattle.arena.specs.Rows.{row_tag}
+use Rattle.arena.proofs.Reading.{reads_or, tag-alone}
 use Rattle.arena.proofs.arena.Arena.tag.Goals as goal
 
 pub returns : goal.returns
-returns c = λ ts e le. c.tag_of.ensures ∙ tag_is c.args.self.now c.args.handle c.row.result c.row.ensures ts e le
+returns c = reads_or item_tag row_tag tag-alone 0 _ _ _ _ c.row.ensures c.map_or.ensures

@@ -1,4 +1,5 @@
-use Rattle.std.proofs.Common.{◌≡◌, [], ◌∷◌, ◌++◌, vec_items, ap, arith, rules}
+use Rattle.std.proofs.Common.{◌≡◌, [], ◌∷◌, ◌++◌, Err, vec_items, ap, arith, rules}
+use Rattle.std.proofs.lemmas.Option.{MatchOption-at_some, MatchOption-at_none}
 use Rattle.std.specs.Iterator.Adapters.{enumerate_source, enumerate_count}
 use Rattle.std.specs.Slice.Iter.{chunks_rest}
 use Rattle.capture.specs.Events.{meaning_of}
@@ -19,16 +20,18 @@ returns-then-index-ge-MAX_EVENTS c =
     let s = c.in-Some.ensures.steps in
     one_too_many _ _ _ _ _ _ _ _ c.loop-index.invariant.3 c.loop-index.invariant.2 s.0.1 _ _ (omega arith) s.1 c.unlawful.ensures
 
-pub returns-in_default : goal.returns-in_default
-returns-in_default c =
+pub returns-in_err-event : goal.returns-in_err-event
+returns-in_err-event c =
     let s = c.in-Some.ensures.steps in
-    unlawful-here _ _ _ _ _ _ _ _ c.loop-index.invariant.3 c.loop-index.invariant.2 s.0.1 _ _ c.in_default.ensures s.1 c.unlawful-in_default.ensures
+    let bad = MatchOption-at_none _ _ c.in_err-event.ensures.ok_part c.read_event.ensures in
+    let failed : c.from_residual.result ≡ Err c.unlawful-in-loop-index.result = search rules in
+    rw failed (unlawful-here _ _ _ _ _ _ _ _ c.loop-index.invariant.3 c.loop-index.invariant.2 s.0.1 _ _ bad s.1 c.unlawful-in-loop-index.ensures)
 
 pub loop-index-preserved : goal.loop-index-preserved
 loop-index-preserved c =
     let s = c.in-Some.ensures.steps in
-    let items : vec_items c.push.new.self ≡ vec_items c.loop-index.events ++ (c.in-Some-read_event.event ∷ []) = search rules in
-    (search rules, search rules, search rules, rw items (goes_on _ _ _ _ _ _ _ _ c.loop-index.invariant.3 c.loop-index.invariant.2 s.0.1 c.in-Some-read_event.event _ _ (omega (arith, s.1)) s.2 (search rules) c.in-Some-read_event.ensures))
+    let items : vec_items c.push.new.self ≡ vec_items c.loop-index.events ++ (c.in_ok-event.event ∷ []) = search rules in
+    (search rules, search rules, search rules, rw items (goes_on _ _ _ _ _ _ _ _ c.loop-index.invariant.3 c.loop-index.invariant.2 s.0.1 c.in_ok-event.event _ _ (omega (arith, s.1)) s.2 (search rules) (MatchOption-at_some _ _ c.in_ok-event.event c.in_ok-event.ensures.ok_part c.read_event.ensures)))
 
 pub invariant_of-result : goal.invariant_of-result
 invariant_of-result c = record { few = search rules; legal = legal _ c.loop-index.invariant.3.ranged }

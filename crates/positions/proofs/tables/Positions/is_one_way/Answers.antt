@@ -1,27 +1,19 @@
-use Rattle.std.proofs.Common.{T, length, sym, ap, subst, arith}
-use Rattle.positions.specs.Filling.{Clear, ClearItems}
-use Rattle.positions.proofs.OneWay.{law_of, one_way_of, firsts-of, items_of}
+use Rattle.std.proofs.Common.{T, sym, ◌∙◌, subst}
+use Rattle.std.proofs.lemmas.Bool.{both_ways, le-ltb}
+use Rattle.positions.proofs.OneWay.{one_way_of, items_of}
+use Rattle.positions.proofs.Settled.{built_of}
 use Rattle.positions.proofs.tables.Positions.is_one_way.Goals as goal
-
-pub items_clear-requires : goal.items_clear-requires
-items_clear-requires c =
-    let p = c.args.self.now in
-    let few = (law_of p).few in
-    let e = ap length c.rows-rows.ensures in
-    record { few = omega arith; long = p.tops_long }
+use Rattle.positions.proofs.tables.Positions.is_one_way.Goals.{then-root-self, else-root-self}
 
 pub returns-then-is_clear : goal.returns-then-is_clear
-returns-then-is_clear c = λ b x.
+returns-then-is_clear c x =
     let p = c.args.self.now in
+    let b = built_of p in
     let r = c.args.root in
-    let next = p.whole.next in
-    let e = c.rows-rows.ensures in (
-      λ t. one_way_of b r x (subst (λ ts. Clear ts next r) e (c.if-is_clear.ensures.0 tt)) (subst (λ ts. ClearItems ts p.tops next r) e (c.items_clear.ensures.0 t)),
-      λ d. c.items_clear.ensures.1 (subst (λ ts. ClearItems ts p.tops next r) (sym e) (items_of b r d)),
-    )
-
-pub returns-else-is_clear : goal.returns-else-is_clear
-returns-else-is_clear c = λ b x.
-    let r = c.args.root in
-    let next = c.args.self.now.whole.next in
-    (λ t. absurd (subst T c.if-is_clear.false t), λ d. absurd (c.if-is_clear.ensures.1 (subst (λ ts. Clear ts next r) (sym c.rows-rows.ensures) (firsts-of b r x d))))
+    elim c.if-root-self.branch [
+      | then-root-self w ↦ (
+        λ t. one_way_of p b r x (w.is_clear.ensures.0 (subst T (sym (sym w.value-is ∙ c.if-is_clear.true)) tt)) (c.items_clear.ensures.0 t),
+        λ d. c.items_clear.ensures.1 (items_of p b r d),
+      )
+      | else-root-self w ↦ absurd (both_ways _ (w.value-is ∙ le-ltb _ _ w.if-root-self.false) c.if-is_clear.true)
+    ]

@@ -1,20 +1,11 @@
-use Rattle.std.proofs.Common.{◌+◌, List, length, ap, subst, arith}
-use Rattle.std.proofs.lemmas.List.{length-take}
-use Rattle.rows.specs.declared.type_row.TypeRow.{TypeRow}
-use Rattle.positions.specs.Built.{MovesBelow}
-use Rattle.positions.specs.Life.{Alive}
-use Rattle.positions.specs.Right.{Nulls, Lasts}
+use Rattle.positions.proofs.Settled.{built_of}
 use Rattle.positions.proofs.tables.Positions.up_to.Goals as goal
 
-pub moves_below-requires : goal.moves_below-requires
-moves_below-requires c =
-    let t = c.args.self.now.types in
-    let few = t.few in
-    let long = t.long in
-    record { lawful = c.rows_of.ensures.lawful; within = omega (arith, ap length c.rows_of.ensures.rows, length-take t.count t.rows) }
+pub moves_below-requires-clause-nulls : goal.moves_below-requires-clause-nulls
+moves_below-requires-clause-nulls c = (built_of c.args.self.now).nullable
 
-pub returns : goal.returns
-returns c built here =
-    let p = c.args.self.now in
-    let Right : List TypeRow → Type 0 = λ ts. Nulls ts p.nullable → Alive ts p.alive → Lasts ts p.lasts → MovesBelow ts (c.args.row + 1) c.moves_below.result in
-    subst Right c.rows_of.ensures.rows c.moves_below.ensures built.nullable built.alive built.lasts
+pub moves_below-requires-clause-alive : goal.moves_below-requires-clause-alive
+moves_below-requires-clause-alive c = (built_of c.args.self.now).alive
+
+pub moves_below-requires-clause-lasts : goal.moves_below-requires-clause-lasts
+moves_below-requires-clause-lasts c = (built_of c.args.self.now).lasts

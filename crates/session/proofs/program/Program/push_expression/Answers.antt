@@ -1,20 +1,31 @@
-use Rattle.std.proofs.Common.{◌≤◌, ap, ◌∙◌, arith}
+use Rattle.std.proofs.Common.{◌≡◌, ◌+◌, length, ap, ◌∙◌, arith}
+use Rattle.rows.specs.Expressions.{expression_fits}
 use Rattle.session.specs.Rules.{expressions_lawful}
 use Rattle.session.specs.Tables.{program_rows}
-use Rattle.session.proofs.Counted.{fits_counted}
 use Rattle.session.proofs.Laws.{expressions-push, arms-grow, functions-grow, query-grow}
 use Rattle.session.proofs.program.Program.push_expression.Goals as goal
 
-pub invariant_of-self : goal.invariant_of-self
-invariant_of-self c =
+pub invariant_of-self-clause-expressions_known : goal.invariant_of-self-clause-expressions_known
+invariant_of-self-clause-expressions_known c =
     let p = c.args.self.now in
     let rows = program_rows p in
-    let n = p.expressions.count in
-    let more = c.push.new.self.count in
-    let le : n ≤ more = omega (arith, c.push.ensures.count) in
-    record {
-      expressions_lawful = ap (expressions_lawful 0 p.arms.count p.text.count) c.push.ensures.rows ∙ expressions-push 0 p.arms.count p.text.count rows.expressions c.args.row p.expressions_lawful (fits_counted p c.args.row c.requires.fits);
-      arms_lawful = arms-grow n more rows.arms le p.arms_lawful;
-      functions_lawful = functions-grow n more rows.functions le p.functions_lawful;
-      query_lawful = query-grow n more p.query le p.query_lawful;
-    }
+    let n = length rows.expressions in
+    let m = length rows.arms in
+    let l = length rows.text in
+    let z : 0 + n ≡ n = omega arith in
+    ap (expressions_lawful 0 m l) c.push.ensures.items ∙ expressions-push 0 m l rows.expressions c.args.row p.expressions_known (ap (λ k. expression_fits (record { expressions = k; arms = m; bytes = l }) c.args.row) z ∙ c.requires.fits)
+
+pub invariant_of-self-clause-arms_known : goal.invariant_of-self-clause-arms_known
+invariant_of-self-clause-arms_known c =
+    let p = c.args.self.now in
+    arms-grow (length p.expressions.items) _ p.arms.items (omega (arith, c.push.ensures.len)) p.arms_known
+
+pub invariant_of-self-clause-functions_known : goal.invariant_of-self-clause-functions_known
+invariant_of-self-clause-functions_known c =
+    let p = c.args.self.now in
+    functions-grow (length p.expressions.items) _ p.functions.rows.items (omega (arith, c.push.ensures.len)) p.functions_known
+
+pub invariant_of-self-clause-query_known : goal.invariant_of-self-clause-query_known
+invariant_of-self-clause-query_known c =
+    let p = c.args.self.now in
+    query-grow (length p.expressions.items) _ p.query (omega (arith, c.push.ensures.len)) p.query_known

@@ -1,6 +1,0 @@
-use Rattle.types.specs.Determinism.{Last}
-use Rattle.positions.proofs.Growing.{Filled}
-use Rattle.positions.proofs.lasts.fill_lasts.Given as goal
-
-abbrev pub invariant-loop-place : goal.invariant-loop-place
-invariant-loop-place l = Filled (Last l.rows) l.lasts l.place
