@@ -71,8 +71,3 @@ related ws r n = bit ws (r * 512 + n)
 -- the items of row r, from one on
 unfoldable pub row_items : List ℕ → ℕ → ℕ → List ℕ
 row_items ws r from = filter (related ws r) (range_with_len from (512 - from))
-
--- the first item of the first row that has one; none if no row that has a number of 32 bits has an item
-abbrev pub FirstItem : List ℕ → Option (ℕ × ℕ) → Type 0
-FirstItem ws None = (j : ℕ) → j < 2 ^ 32 * 512 → bit ws j ≡ true → ⊥
-FirstItem ws (Some p) = (p.1 < 512) × FoundFirst (λ j. bit ws j ≡ true) 0 (room ws) (p.0 * 512 + p.1)

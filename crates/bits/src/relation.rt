@@ -1,12 +1,9 @@
 ghost use Rattle.std.specs.Prelude.{◌≡◌, ℕ, ◌+◌, ◌*◌, false, length};
-ghost use Rattle.bits.specs.Bits.{bit, related, row_items, FirstItem, Inserted, Removed, United};
+ghost use Rattle.bits.specs.Bits.{bit, related, row_items, Inserted, Removed, United};
 ghost use Rattle.bits.specs.Items.{items_left};
 
 use crate::items::Items;
-use crate::{places, rows, search};
-
-/// Rows have numbers below this one.
-const ROWS: usize = 1 << 32;
+use crate::{places, rows};
 
 /// A relation between rows: 512 bits for each row on its left, in 8 words.
 #[derive(Clone, Copy)]
@@ -49,14 +46,6 @@ impl<const WORDS: usize> Relation<WORDS> {
         ensures { United self.old.words self.new.words to from }
     {
         rows::unite(&mut self.words, to as usize, from as usize);
-    }
-
-    /// The first row that has an item, and the first of its items.
-    pub fn first(&self) -> Option<(u32, u32)>
-        ensures { FirstItem self.now.words result }
-    {
-        let place = search::next(&self.words, 0, ROWS * 512)?;
-        Some(((place / 512) as u32, (place % 512) as u32))
     }
 
     /// The items of a row.

@@ -1,2 +1,3 @@
 pub mod OnSession
+pub mod OnTypes
 pub mod Lines

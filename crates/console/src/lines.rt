@@ -8,13 +8,14 @@ ghost use Rattle.console.specs.Lines.{Replies, Does};
 ghost use Rattle.script.specs.Calls.{asked};
 
 use crate::on_session::perform_on_session;
+use crate::on_types::perform_on_types;
 use answers::{Answer, write_answer};
 use probe::Probe;
 use script::{Call, Reading, read_call};
 use session::Session;
 use std::alloc::{AllocError, Global};
 
-/// Reads a line of a script, performs its call on the session or on the store, and gives the text that answers it, if it is answered.
+/// Reads a line of a script, performs its call on the session, the store or the session's types, and gives the text that answers it, if it is answered.
 // The session is lent, and the probe is passed on, since a call may put another store in its place: a struct of both would be passed
 // on too, and each line would copy the session's tables.
 pub fn answer_line(
@@ -40,12 +41,16 @@ pub fn answer_line(
     }
 }
 
-/// Performs a call on the store or on the session.
+/// Performs a call on the store, on the session or on its types.
 fn perform(alloc: Global, session: &mut Session, probe: Probe, call: &Call) -> (Probe, Answer)
     ensures { Does (asked call.now) (record { rows = tables session.old; store = state probe }) (said result.1) (record { rows = tables session.new; store = state result.0 }) }
 {
     match call {
         Call::Store(call) => probe.perform(alloc, call),
         Call::Session(call) => (probe, perform_on_session(alloc, session, call)),
+        Call::Types(call) => {
+            let answer = perform_on_types(alloc, session, &probe, call);
+            (probe, answer)
+        }
     }
 }

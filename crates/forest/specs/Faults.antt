@@ -2,14 +2,17 @@
 use Rattle.std.specs.Prelude.{ℕ}
 use Rattle.forest.specs.declared.fault.Fault.{Fault}
 use Rattle.forest.specs.declared.fault.Reason.{Reason}
-use Rattle.forest.specs.declared.fault.Reason.TheVariants.{TableFull, FieldOutOfRange, PartTaken, NoSuchHandle, NestedTooDeep, BufferShort, SpaceShort, OutOfRange, UnlawfulTable, UnlawfulCapture}
+use Rattle.forest.specs.declared.fault.Reason.TheVariants.{TableFull, FieldOutOfRange, PartTaken, TypeMissing, Ambiguous, NoSuchHandle, NestedTooDeep, OutsideType, BufferShort, SpaceShort, OutOfRange, UnlawfulTable, UnlawfulCapture}
 
 abbrev pub number_of : Reason → ℕ
 number_of TableFull = 11
 number_of FieldOutOfRange = 12
 number_of PartTaken = 13
+number_of TypeMissing = 22
+number_of Ambiguous = 23
 number_of NoSuchHandle = 33
 number_of NestedTooDeep = 34
+number_of OutsideType = 35
 number_of BufferShort = 36
 number_of SpaceShort = 51
 number_of OutOfRange = 52

@@ -10,10 +10,16 @@ pub enum Reason {
     FieldOutOfRange = 12,
     /// A type part that another row owns, or that is named twice.
     PartTaken = 13,
+    /// A named type that is not there or is no root.
+    TypeMissing = 22,
+    /// A root that is not one-way.
+    Ambiguous = 23,
     /// A handle that the store does not have.
     NoSuchHandle = 33,
     /// More than 64 elements stand inside one another.
     NestedTooDeep = 34,
+    /// Input outside its type.
+    OutsideType = 35,
     /// The text is longer than the buffer.
     BufferShort = 36,
     /// The store's space does not hold one more such tree.

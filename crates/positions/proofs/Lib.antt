@@ -10,3 +10,4 @@ mod Remainders
 mod Fresh
 pub mod Reading
 pub mod Settled
+pub mod Closing

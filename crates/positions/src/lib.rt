@@ -1,8 +1,10 @@
 #![tactic(auto)]
 
 mod alive;
+mod asking;
 mod build;
 mod determinism;
+mod ending;
 mod ends;
 mod flags;
 mod giving;
@@ -14,6 +16,7 @@ mod nullable;
 mod tables;
 mod tops;
 
+pub use asking::{ask, is_one_way};
 pub use flags::Flags;
 pub use moves::Moves;
 pub use tables::Positions;

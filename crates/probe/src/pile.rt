@@ -2,15 +2,19 @@ ghost use Rattle.std.specs.Prelude.{◌≡◌, ◌+◌, ◌≤◌, length, IfOk,
 ghost use Rattle.script.specs.Calls.{asked_store};
 ghost use Rattle.overlay.specs.Overlays.{opened};
 ghost use Rattle.answers.specs.Answers.{said};
+ghost use Rattle.types.specs.Tables.{rows_of};
+ghost use Rattle.validation.specs.Validating.{Validated};
 ghost use Rattle.probe.specs.Performing.{Performs};
 ghost use Rattle.probe.specs.Piles.{pile_meaning, pile_height, pile_layer};
 
 use crate::calls::perform;
 use answers::Answer;
-use forest::{Space, Store};
+use forest::{Failure, Space, Store};
 use overlay::Overlay;
 use script::StoreCall;
 use std::alloc::Global;
+use types::TypeRows;
+use validation::validate;
 
 /// So many overlays may stand one over the other.
 const MOST_OVERLAYS: u8 = 4;
@@ -32,6 +36,22 @@ impl<S: Store + Drop> Pile<S> {
         match self {
             Pile::Bare(store) => perform(alloc, store, call),
             Pile::Covered { top, .. } => perform(alloc, top, call),
+        }
+    }
+
+    /// Refuses handles of what stands on top whose forest does not belong to a root.
+    pub fn validate(
+        &self,
+        alloc: Global,
+        types: TypeRows,
+        root: u32,
+        handles: &[u32],
+    ) -> Result<(), Failure>
+        ensures { Validated (rows_of types) root (pile_meaning S.Store.means self.now).trees handles.now result }
+    {
+        match self {
+            Pile::Bare(store) => validate(alloc, store, types, root, handles),
+            Pile::Covered { top, .. } => validate(alloc, top, types, root, handles),
         }
     }
 

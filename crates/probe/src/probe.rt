@@ -3,6 +3,8 @@ ghost use Rattle.forest.specs.declared.failure.Failure.TheVariants.{OutOfMemory}
 ghost use Rattle.script.specs.Calls.{asked_store};
 ghost use Rattle.table.specs.Tables.{table_meaning};
 ghost use Rattle.answers.specs.Answers.{said, done, failed};
+ghost use Rattle.types.specs.Tables.{rows_of};
+ghost use Rattle.validation.specs.Validating.{Validated};
 ghost use Rattle.probe.specs.Probes.{state, Obeys, LoadsCapture, LoadsTable, Opens, OnStore, overlaid_by};
 
 use crate::pile::Pile;
@@ -12,6 +14,7 @@ use forest::{Failure, Space, Store};
 use script::StoreCall;
 use std::alloc::Global;
 use table::{RawRow, Table};
+use types::TypeRows;
 
 /// The store that calls are performed on: a table or a capture, with its overlays.
 #[derive(Drop)]
@@ -56,6 +59,22 @@ impl Probe {
         self.replaced_by(Capture::load(alloc, bytes), |store| {
             Probe::OfCapture(Pile::Bare(store))
         })
+    }
+
+    /// Refuses handles of the store whose forest does not belong to a root.
+    pub fn validate(
+        &self,
+        alloc: Global,
+        types: TypeRows,
+        root: u32,
+        handles: &[u32],
+    ) -> Result<(), Failure>
+        ensures { Validated (rows_of types) root (state self.now).meaning.trees handles.now result }
+    {
+        match self {
+            Probe::OfTable(pile) => pile.validate(alloc, types, root, handles),
+            Probe::OfCapture(pile) => pile.validate(alloc, types, root, handles),
+        }
     }
 
     /// A table becomes the store; a refused one leaves it as it was.

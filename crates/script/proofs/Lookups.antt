@@ -5,8 +5,8 @@ use Rattle.std.specs.Str.{bytes_eq, IsUtf8}
 use Rattle.std.proofs.lemmas.Slice.Eq.{bytes_eq-Decides}
 use Rattle.fields.specs.Lists.{pieces, texts}
 use Rattle.fields.specs.Words.{first, given}
-use Rattle.script.specs.Calls.{on_store, on_session}
-use Rattle.script.specs.Forms.{Form, store_forms, session_forms, forms, as_kind, look_up, session_call_of, call_of}
+use Rattle.script.specs.Calls.{on_store, on_session, on_types}
+use Rattle.script.specs.Forms.{Form, store_forms, session_forms, types_forms, other_forms, forms, as_kind, look_up, types_call_of, other_call_of, call_of}
 use Rattle.script.specs.Lines.{call_in}
 
 -- forms of one kind among those of more
@@ -36,9 +36,13 @@ look_up-past (f ∷ fs) more name ws others =
     other_word name f.word (f.reads ws) (look_up (fs ++ more) name ws) others.0 ∙ look_up-past fs more name ws others.1
 
 -- a word that names no call on a store
-pub call_of-session : (name : List ℕ) (ws : List (List ℕ)) → NoneNamed name (map (as_kind on_store) store_forms) → call_of name ws ≡ option_map on_session (session_call_of name ws)
-call_of-session name ws others =
-    look_up-past (map (as_kind on_store) store_forms) (map (as_kind on_session) session_forms) name ws others ∙ look_up-map on_session session_forms name ws
+pub call_of-other : (name : List ℕ) (ws : List (List ℕ)) → NoneNamed name (map (as_kind on_store) store_forms) → call_of name ws ≡ other_call_of name ws
+call_of-other name ws others = look_up-past (map (as_kind on_store) store_forms) other_forms name ws others
+
+-- a word that names no call on a session either
+pub other_call_of-types : (name : List ℕ) (ws : List (List ℕ)) → NoneNamed name (map (as_kind on_session) session_forms) → other_call_of name ws ≡ option_map on_types (types_call_of name ws)
+other_call_of-types name ws others =
+    look_up-past (map (as_kind on_session) session_forms) (map (as_kind on_types) types_forms) name ws others ∙ look_up-map on_types types_forms name ws
 
 -- each form's word is text
 abbrev AllText : {X : Type 0} → List (Form X) → Type 0

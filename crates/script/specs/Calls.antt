@@ -10,8 +10,10 @@ use Rattle.script.specs.declared.call.StoreCall.{StoreCall}
 use Rattle.script.specs.declared.call.StoreCall.TheVariants.{Capture, Table, Tray, Space as SpaceLeft, Integer, Boolean, String, Element, Print}
 use Rattle.script.specs.declared.call.SessionCall.{SessionCall}
 use Rattle.script.specs.declared.call.SessionCall.TheVariants.{Text, «Type» as TypeRow, Function, Arm, Expression, Body, Query, Tags, Clear}
+use Rattle.script.specs.declared.call.TypeCall.{TypeCall}
+use Rattle.script.specs.declared.call.TypeCall.TheVariants.{OneWay, Fits, Validate}
 use Rattle.script.specs.declared.call.Call.{Call}
-use Rattle.script.specs.declared.call.Call.TheVariants.{Store, Session}
+use Rattle.script.specs.declared.call.Call.TheVariants.{Store, Session, Types}
 
 -- What a line asks of a store.
 pub data StoreAsked : Type 0 where
@@ -36,10 +38,17 @@ pub data SessionAsked : Type 0 where
   tags : ℕ → SessionAsked
   clear : SessionAsked
 
+-- What a line asks about the types of a session.
+pub data TypesAsked : Type 0 where
+  one_way : ℕ → TypesAsked
+  fits : ℕ → ℕ → TypesAsked
+  validate : ℕ → List ℕ → TypesAsked
+
 -- What a line asks for.
 pub data Asked : Type 0 where
   on_store : StoreAsked → Asked
   on_session : SessionAsked → Asked
+  on_types : TypesAsked → Asked
 
 abbrev pub asked_store : StoreCall → StoreAsked
 asked_store (Capture bytes) = capture (vec_items bytes)
@@ -63,9 +72,15 @@ asked_session (Query given) = query given
 asked_session (Tags places) = tags places
 asked_session Clear = clear
 
+abbrev pub asked_types : TypeCall → TypesAsked
+asked_types (OneWay row) = one_way row
+asked_types (Fits row root) = fits row root
+asked_types (Validate root handles) = validate root (vec_items handles)
+
 abbrev pub asked : Call → Asked
 asked (Store call) = on_store (asked_store call)
 asked (Session call) = on_session (asked_session call)
+asked (Types call) = on_types (asked_types call)
 
 -- The word of a call.
 
@@ -91,6 +106,12 @@ session_word (query given) = codes "query"
 session_word (tags places) = codes "tags"
 session_word clear = codes "clear"
 
+abbrev pub types_word : TypesAsked → List ℕ
+types_word (one_way row) = codes "oneway"
+types_word (fits row root) = codes "fits"
+types_word (validate root handles) = codes "validate"
+
 abbrev pub word_of : Asked → List ℕ
 word_of (on_store a) = store_word a
 word_of (on_session a) = session_word a
+word_of (on_types a) = types_word a

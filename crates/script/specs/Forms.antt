@@ -6,7 +6,7 @@ use Rattle.std.specs.Str.{bytes_eq}
 use Rattle.fields.specs.Bytes.{bytes_of}
 use Rattle.fields.specs.Numbers.{signed_number}
 use Rattle.fields.specs.Rows.{number8, number32, numbers_of, rows_of}
-use Rattle.script.specs.Calls.{Asked, on_store, on_session, StoreAsked, capture, table, tray, space, integer, boolean, string, element, print, SessionAsked, text, type, function, arm, expression, body, query, tags, clear}
+use Rattle.script.specs.Calls.{Asked, on_store, on_session, on_types, StoreAsked, capture, table, tray, space, integer, boolean, string, element, print, SessionAsked, text, type, function, arm, expression, body, query, tags, clear, TypesAsked, one_way, fits, validate}
 use Rattle.script.specs.Patterns.{none, one, two, three, five, one_then}
 
 -- A call's word, and how the words after it are read.
@@ -49,9 +49,21 @@ session_forms =
     ∷ form "clear" (none clear)
     ∷ []
 
--- The calls: those on a store, and then those on a session.
+-- The calls on the types of a session.
+abbrev pub types_forms : List (Form TypesAsked)
+types_forms =
+    form "oneway" (one number32 one_way)
+    ∷ form "fits" (two number32 number32 fits)
+    ∷ form "validate" (one_then number32 number32 validate)
+    ∷ []
+
+-- The calls that are not on a store: those on a session, and then those on its types.
+abbrev pub other_forms : List (Form Asked)
+other_forms = map (as_kind on_session) session_forms ++ map (as_kind on_types) types_forms
+
+-- The calls: those on a store, and then the others.
 abbrev pub forms : List (Form Asked)
-forms = map (as_kind on_store) store_forms ++ map (as_kind on_session) session_forms
+forms = map (as_kind on_store) store_forms ++ other_forms
 
 abbrev pub look_up : {X : Type 0} → List (Form X) → List ℕ → List (List ℕ) → Option X
 look_up [] name words = None
@@ -63,6 +75,12 @@ store_call_of name words = look_up store_forms name words
 
 abbrev pub session_call_of : List ℕ → List (List ℕ) → Option SessionAsked
 session_call_of name words = look_up session_forms name words
+
+abbrev pub types_call_of : List ℕ → List (List ℕ) → Option TypesAsked
+types_call_of name words = look_up types_forms name words
+
+abbrev pub other_call_of : List ℕ → List (List ℕ) → Option Asked
+other_call_of name words = look_up other_forms name words
 
 abbrev pub call_of : List ℕ → List (List ℕ) → Option Asked
 call_of name words = look_up forms name words

@@ -1,5 +1,5 @@
 ghost use Rattle.std.specs.Prelude.{◌≡◌};
-ghost use Rattle.script.specs.Calls.{asked, asked_store, asked_session, word_of, store_word, session_word};
+ghost use Rattle.script.specs.Calls.{asked, asked_store, asked_session, asked_types, word_of, store_word, session_word, types_word};
 
 use forest::Space;
 use rows::{Query, RawArm, RawExpression, RawType};
@@ -82,11 +82,33 @@ impl SessionCall {
     }
 }
 
+/// A call on the types of a session.
+#[derive(PartialEq, Eq, Drop)]
+pub enum TypeCall {
+    OneWay { row: u32 },
+    Fits { row: u32, root: u32 },
+    Validate { root: u32, handles: Vec<u32> },
+}
+
+impl TypeCall {
+    /// The word that names the call.
+    fn word(&self) -> &'static str
+        ensures { result.now ≡ types_word (asked_types self.now) }
+    {
+        match self {
+            TypeCall::OneWay { .. } => "oneway",
+            TypeCall::Fits { .. } => "fits",
+            TypeCall::Validate { .. } => "validate",
+        }
+    }
+}
+
 /// A call of a script.
 #[derive(PartialEq, Eq, Drop)]
 pub enum Call {
     Store(StoreCall),
     Session(SessionCall),
+    Types(TypeCall),
 }
 
 impl Call {
@@ -97,6 +119,7 @@ impl Call {
         match self {
             Call::Store(call) => call.word(),
             Call::Session(call) => call.word(),
+            Call::Types(call) => call.word(),
         }
     }
 }

@@ -115,7 +115,7 @@ pub(crate) fn read_form(alloc: Global, name: &str, words: &[&[u8]]) -> Result<Ca
         "string" => read_one_bytes(alloc, words).map(StoreCall::String),
         "element" => read_element(alloc, words),
         "print" => read_print(alloc, words),
-        _ => return Ok(Call::Session(read_session_form(alloc, name, words)?)),
+        _ => return read_session_form(alloc, name, words),
     };
     Ok(Call::Store(call?))
 }

@@ -5,7 +5,8 @@ mod forms;
 mod line;
 mod reading;
 mod session_forms;
+mod type_forms;
 
-pub use call::{Call, SessionCall, StoreCall};
+pub use call::{Call, SessionCall, StoreCall, TypeCall};
 pub use line::read_call;
 pub use reading::Reading;

@@ -2,11 +2,12 @@ ghost use Rattle.std.specs.Prelude.{◌≡◌, codes};
 ghost use Rattle.std.specs.Option.{option_map};
 ghost use Rattle.fields.specs.Lists.{texts};
 ghost use Rattle.fields.specs.Reading.{Reads};
-ghost use Rattle.script.specs.Calls.{asked_session};
-ghost use Rattle.script.specs.Forms.{session_call_of};
+ghost use Rattle.script.specs.Calls.{asked, asked_session};
+ghost use Rattle.script.specs.Forms.{session_call_of, other_call_of};
 
-use crate::call::SessionCall;
+use crate::call::{Call, SessionCall};
 use crate::forms::{read_one, read_one_bytes};
+use crate::type_forms::read_type_form;
 use fields::{Field, ReadError};
 use rows::{Query, RawArm, RawExpression, RawType};
 use std::alloc::Global;
@@ -103,15 +104,15 @@ fn read_clear(words: &[&[u8]]) -> Option<SessionCall>
     words.is_empty().then_some(SessionCall::Clear)
 }
 
-/// The call on a session that a word and the words after it stand for.
+/// The call on a session, or on its types, that a word and the words after it stand for.
 pub(crate) fn read_session_form(
     alloc: Global,
     name: &str,
     words: &[&[u8]],
-) -> Result<SessionCall, ReadError>
-    ensures { Reads asked_session (session_call_of name.now (texts words.now)) result }
+) -> Result<Call, ReadError>
+    ensures { Reads asked (other_call_of name.now (texts words.now)) result }
 {
-    match name {
+    let call = match name {
         "text" => read_one_bytes(alloc, words).map(SessionCall::Text),
         "type" => read_type(words).ok_or(ReadError::Malformed),
         "function" => read_function(words).ok_or(ReadError::Malformed),
@@ -123,6 +124,7 @@ pub(crate) fn read_session_form(
             .map(|places| SessionCall::Tags { places })
             .ok_or(ReadError::Malformed),
         "clear" => read_clear(words).ok_or(ReadError::Malformed),
-        _ => Err(ReadError::Malformed),
-    }
+        _ => return Ok(Call::Types(read_type_form(alloc, name, words)?)),
+    };
+    Ok(Call::Session(call?))
 }

@@ -5,7 +5,7 @@ mod tests {
     use answers::{Answer, write_answer};
     use forest::{Fault, Reason, Space};
     use rows::{Query, RawArm, RawExpression, RawType};
-    use script::{Call, Reading, SessionCall, StoreCall, read_call};
+    use script::{Call, Reading, SessionCall, StoreCall, TypeCall, read_call};
     use std::alloc::Global;
     use std::process::Abort;
     use std::test::Fail;
@@ -35,6 +35,11 @@ mod tests {
         call: SessionCall,
     ) -> Result<(), Fail> {
         assert!(rt; read_call(alloc, line)? == Reading::Call(Call::Session(call)));
+        Ok(())
+    }
+
+    fn on_types(rt: &impl Abort, alloc: Global, line: &[u8], call: TypeCall) -> Result<(), Fail> {
+        assert!(rt; read_call(alloc, line)? == Reading::Call(Call::Types(call)));
         Ok(())
     }
 
@@ -186,6 +191,50 @@ mod tests {
     }
 
     #[test]
+    fn type_calls(rt: HostRuntime) -> Result<(), Fail> {
+        let alloc = rt.alloc();
+        on_types(&rt, alloc, b"oneway 12", TypeCall::OneWay { row: 12 })?;
+        on_types(
+            &rt,
+            alloc,
+            b"fits 4294967295 006",
+            TypeCall::Fits {
+                row: u32::MAX,
+                root: 6,
+            },
+        )?;
+        on_types(
+            &rt,
+            alloc,
+            b"validate 7",
+            TypeCall::Validate {
+                root: 7,
+                handles: Vec::new(alloc),
+            },
+        )?;
+        on_types(
+            &rt,
+            alloc,
+            b"validate 7 19 0 19",
+            TypeCall::Validate {
+                root: 7,
+                handles: vec![in alloc; 19, 0, 19]?,
+            },
+        )
+    }
+
+    #[test]
+    fn malformed_type_calls(rt: HostRuntime) -> Result<(), Fail> {
+        let alloc = rt.alloc();
+        malformed(&rt, alloc, b"oneway")?;
+        malformed(&rt, alloc, b"oneway 1 2")?;
+        malformed(&rt, alloc, b"fits 1")?;
+        malformed(&rt, alloc, b"fits 1 4294967296")?;
+        malformed(&rt, alloc, b"validate")?;
+        malformed(&rt, alloc, b"validate 1 -")
+    }
+
+    #[test]
     fn malformed_lines(rt: HostRuntime) -> Result<(), Fail> {
         let alloc = rt.alloc();
         malformed(&rt, alloc, b"spaces")?;
@@ -224,6 +273,17 @@ mod tests {
             alloc,
             Answer::Refused(fault),
             b"7 print refused 33 4 0",
+        )?;
+        let ambiguous = Fault {
+            reason: Reason::Ambiguous,
+            layer: 2,
+            row: 511,
+        };
+        answered(
+            &rt,
+            alloc,
+            Answer::Refused(ambiguous),
+            b"7 print refused 23 2 511",
         )?;
         answered(&rt, alloc, Answer::Malformed, b"7 ? malformed")?;
         answered(&rt, alloc, Answer::Unsupported, b"7 print unsupported")

@@ -1,5 +1,6 @@
 ghost use Rattle.std.specs.Prelude.{◌≡◌, cond, length, Ok, Err};
 ghost use Rattle.forest.specs.Faults.{faulted};
+ghost use Rattle.types.specs.Tables.{rows_of};
 ghost use Rattle.session.specs.Lawful.{Lawful};
 ghost use Rattle.session.specs.Calls.{tables, empty_tables, settled, add_text, add_type, add_function, add_arm, add_expression, set_body, set_query, clear, applied, answered};
 
@@ -11,6 +12,7 @@ use rows::{
     Arm, EXPRESSIONS, Expression, FUNCTIONS, Function, Query, RawArm, RawExpression, RawType,
     TYPE_ROWS, TypeRow,
 };
+use types::TypeRows;
 
 const SESSION: u8 = 1;
 
@@ -44,6 +46,13 @@ impl Session {
         ensures lawful { Lawful (tables self.now) }
     {
         self.types.declared()
+    }
+
+    /// The declared type rows.
+    pub fn declared_types(&self) -> TypeRows
+        ensures { rows_of result ≡ (tables self.now).types }
+    {
+        self.types.declared_rows()
     }
 
     /// Puts bytes behind the text, and answers the place where they begin.

@@ -3,6 +3,7 @@ ghost use Rattle.rows.specs.TypeTables.{types_lawful, free};
 
 use crate::counts::Counts;
 use rows::TypeRow;
+use types::TypeRows;
 
 /// The type rows: the declared ones keep the rules on parts. They lie in a plain array and not in an array vector, since the counts
 /// have to stand in a record of their own, which the guard of a check will borrow alone (docs/DECISIONS.md).
@@ -17,6 +18,7 @@ pub struct TypeTable {
 impl TypeTable {
     ghost use Rattle.rows.specs.TypeRows.{type_fits, twice};
     ghost use Rattle.session.specs.Tables.{declared_of};
+    ghost use Rattle.types.specs.Tables.{rows_of};
 
     pub(crate) fn new() -> TypeTable
         ensures { declared_of result ≡ [] }
@@ -36,6 +38,16 @@ impl TypeTable {
         ensures long { result ≡ length (declared_of self.now) }
     {
         self.counts.declared
+    }
+
+    /// The declared rows, as a table of types.
+    pub(crate) fn declared_rows(&self) -> TypeRows
+        ensures { rows_of result ≡ declared_of self.now }
+    {
+        TypeRows {
+            rows: self.rows,
+            count: self.counts.declared,
+        }
     }
 
     /// Whether no declared row has a part of this one.

@@ -5,8 +5,7 @@ use Rattle.rows.specs.declared.type_row.TypeRow.{TypeRow}
 use Rattle.rows.specs.TypeRows.{owns}
 use Rattle.types.specs.Parts.{row, Root, Lawful, Within, itself}
 use Rattle.types.specs.Belonging.{Subtype}
-use Rattle.types.specs.Determinism.{Nullable, Last}
-use Rattle.types.specs.Places.{Place, start, behind, type_of, Next, Ends, end_nothing, end_last, Useful, covers, Reach, r_start, r_on, r_in, Checked}
+use Rattle.types.specs.Places.{Place, start, behind, type_of, Next, Ends, Useful, covers, Reach, r_start, r_on, r_in, Checked}
 use Rattle.types.specs.Tables.{Exactly}
 use Rattle.types.proofs.Exact.{known, shown}
 use Rattle.types.proofs.OfTable.{table-lawful}
@@ -15,14 +14,14 @@ use Rattle.types.proofs.Sound.{Answer, closed-subtype}
 use Rattle.types.proofs.Complete.{subtype_simulates}
 use Rattle.positions.specs.declared.tables.Positions.{Positions}
 use Rattle.positions.specs.declared.moves.Moves.{Moves}
-use Rattle.bits.specs.Bits.{related}
-use Rattle.positions.specs.Below.{flag, FreeBelow}
-use Rattle.positions.specs.Built.{types_of, top, Built}
+use Rattle.positions.specs.Below.{FreeBelow}
+use Rattle.positions.specs.Built.{types_of, top, ends_at, Built}
 use Rattle.positions.specs.Tables.{MovesBelow}
+use Rattle.positions.proofs.Closing.{ends_is}
 use Rattle.positions.proofs.Reading.{within_low, one-root, At, at_start, at_item, next-within, next_small, read_next, next-read, read_useful, useful-live, useful-alive}
 use Rattle.subtyping.specs.declared.pairs.Pairs.{Pairs}
 use Rattle.subtyping.specs.Worklist.{pair, Visited}
-use Rattle.subtyping.specs.Comparison.{behind_item, moves_at, right_place, ends_at, ends_left, ends_right, ends_alike, Goes, Answers, Leads, on, into, Steps, step, Passes, Fails, no_end, no_answer, Reached, first, more, Verdict, alike, unlike}
+use Rattle.subtyping.specs.Comparison.{behind_item, moves_at, right_place, ends_left, ends_right, ends_alike, Goes, Answers, Leads, on, into, Steps, step, Passes, Fails, no_end, no_answer, Reached, first, more, Verdict, alike, unlike}
 
 -- numbers of pairs
 
@@ -174,23 +173,6 @@ module _ (p : Positions) (l : Moves) (a : ℕ) (built : Built p) (local : MovesB
 
   -- ENDS
 
-  nothing-of : {c : ℕ} → Ends (types_of p) (start c) → Nullable (types_of p) c
-  nothing-of (end_nothing z) = z
-
-  last_of : {c x : ℕ} → Ends (types_of p) (behind c x) → Last (types_of p) c x
-  last_of (end_last h) = h
-
-  ends_is : {c at : ℕ} {q : Place} → c < 512 → At (types_of p) c q at → Exactly (ends_at p c at) (Ends (types_of p) q)
-  ends_is {c} lt at_start =
-      let e : ends_at p c c ≡ flag p.nullable.marks c = ap (λ (b : Bool). cond b (flag p.nullable.marks c) (related p.lasts.words c (c % 512))) (lt-ltb c 512 lt) in
-      (λ h. end_nothing ((built.nullable c).0 (subst T e h)), λ h. subst T (sym e) ((built.nullable c).1 (nothing-of h)))
-  ends_is {c} lt (at_item {x} w) =
-      let k = within_low law w in
-      let i : (512 + x) % 512 ≡ x = omega arith in
-      let e : ends_at p c (512 + x) ≡ related p.lasts.words c x =
-      ap (λ (b : Bool). cond b (flag p.nullable.marks (512 + x)) (related p.lasts.words c ((512 + x) % 512))) (le-ltb (512 + x) 512 (omega arith)) ∙ ap (related p.lasts.words c) i in
-      (λ h. end_last ((built.lasts c x lt (omega arith)).0 (subst T e h)), λ h. subst T (sym e) ((built.lasts c x lt (omega arith)).1 (last_of h)))
-
   -- the root of a row within one
   top_of : {c x : ℕ} → Root (types_of p) c → Within (types_of p) c x → top p x ≡ c
   top_of {c} {x} r w = let k = within_low law w in let t = r.there in let lt : x < length (types_of p) = omega arith in one-root law (built.top_root x lt) r (built.top_within x lt) w
@@ -212,7 +194,7 @@ module _ (p : Positions) (l : Moves) (a : ℕ) (built : Built p) (local : MovesB
       let r = readable k in
       let s = at_small t r.small in
       let i : ends_left p a left ≡ ends_at p c at = ap (ends_left p a) e ∙ ap (λ z. ends_at p z ((base + at) % 1024)) (left_inside k t) ∙ ap (ends_at p c) (r.rest at s) in
-      subst (λ (z : Bool). Exactly z (Ends (types_of p) q)) (sym i) (ends_is r.small t)
+      subst (λ (z : Bool). Exactly z (Ends (types_of p) q)) (sym i) (ends_is p built r.small t)
 
   top_right : {left right : ℕ} {q : Place} → (h : RightAt (types_of p) left right q) → top p right ≡ (right_read h).0
   unfolding right_read
@@ -222,7 +204,7 @@ module _ (p : Positions) (l : Moves) (a : ℕ) (built : Built p) (local : MovesB
   ends_right-is : {left right : ℕ} {q : Place} → RightAt (types_of p) left right q → Exactly (ends_right p left right) (Ends (types_of p) q)
   ends_right-is {left} {right} {q} h =
       let r = right_read h in
-      subst (λ (z : ℕ). Exactly (ends_at p z (right_place left right)) (Ends (types_of p) q)) (sym (top_right h)) (ends_is (root_small r.1.0) r.1.1)
+      subst (λ (z : ℕ). Exactly (ends_at p z (right_place left right)) (Ends (types_of p) q)) (sym (top_right h)) (ends_is p built (root_small r.1.0) r.1.1)
 
   ends_alike-is : {left right : ℕ} {q s : Place} → LeftAt (types_of p) a left q → RightAt (types_of p) left right s → Exactly (ends_alike p a left right) (Ends (types_of p) q → Ends (types_of p) s)
   ends_alike-is {left} {right} {q} {s} x y = go (ends_left p a left) (ends_left-is x)

@@ -6,7 +6,7 @@ use Rattle.positions.specs.declared.tables.Positions.{Positions}
 use Rattle.positions.specs.declared.moves.Moves.{Moves}
 use Rattle.bits.specs.Bits.{related}
 use Rattle.positions.specs.Below.{flag}
-use Rattle.positions.specs.Built.{types_of, top}
+use Rattle.positions.specs.Built.{types_of, top, ends_at}
 use Rattle.subtyping.specs.declared.pairs.Pairs.{Pairs}
 use Rattle.subtyping.specs.Worklist.{pair, Visited, Grown}
 
@@ -24,10 +24,6 @@ moves_at p l left = cond (nat_lt left 1024) p.whole l
 -- the place on the right
 abbrev pub right_place : ℕ → ℕ → ℕ
 right_place left right = cond (nat_lt (left % 1024) 512) right (512 + right)
-
--- the forest may end at a place of the row `inside`, by the tables
-abbrev pub ends_at : Positions → ℕ → ℕ → Bool
-ends_at p inside place = cond (nat_lt place 512) (flag p.nullable.marks place) (related p.lasts.words inside (place % 512))
 
 abbrev pub ends_left : Positions → ℕ → ℕ → Bool
 ends_left p a left = ends_at p (cond (nat_lt left 1024) (top p (left % 512)) a) (left % 1024)

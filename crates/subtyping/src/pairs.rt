@@ -1,5 +1,5 @@
-ghost use Rattle.std.specs.Prelude.{◌<◌};
-ghost use Rattle.subtyping.specs.Waits.{OnlyVisited};
+ghost use Rattle.std.specs.Prelude.{◌≡◌, ◌<◌, length};
+ghost use Rattle.subtyping.specs.Waits.{OnlyVisited, Listed, Busy};
 
 use bits::Relation;
 
@@ -19,5 +19,10 @@ pub struct Pair {
 pub struct Pairs {
     pub(crate) visited: Relation<16384>,
     pub(crate) waiting: Relation<16384>,
+    /// A bit for each left place: whether a pair of it waits. So the next pair is found without going over all of them.
+    pub(crate) places: [u64; 32],
     ghost held: { OnlyVisited visited.words waiting.words },
+    ghost long: { length places ≡ 32 },
+    ghost listed: { Listed waiting.words places },
+    ghost busy: { Busy waiting.words places },
 }

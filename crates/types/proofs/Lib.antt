@@ -1,6 +1,7 @@
 pub mod Rules
 pub mod Exact
 pub mod OfTable
+pub mod Asked
 pub mod Owed
 pub mod Steps
 pub mod Contexts

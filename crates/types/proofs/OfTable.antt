@@ -1,13 +1,15 @@
 -- What holds of every table of types.
-use Rattle.std.proofs.Common.{◌≡◌, ℕ, ◌<◌, ◌≤◌, true, ltb, List, length, Some, None, Option, arith, ltb-true}
-use Rattle.std.proofs.lemmas.List.{length-take-le}
+use Rattle.std.proofs.Common.{◌≡◌, ℕ, ◌<◌, ◌≤◌, true, ltb, List, length, Some, None, Option, sym, ap, ◌∙◌, arith, ltb-true}
+use Rattle.std.proofs.lemmas.List.{length-take-le, get_or_past}
 use Rattle.std.proofs.lemmas.Bool.{and_parts}
 use Rattle.forest.specs.Forests.{tag_lawful}
 use Rattle.rows.specs.declared.type_row.TypeRow.{TypeRow}
 use Rattle.rows.specs.declared.type_row.TypeRow.TheVariants.{EmptyChoice, EmptySequence, Integer, String, Boolean, Element, AnyElement, Sequence, Choice, Repetition}
 use Rattle.rows.specs.TypeRows.{type_fits}
 use Rattle.types.specs.declared.type_rows.TypeRows.{TypeRows}
-use Rattle.types.specs.Parts.{row, content, Lawful}
+use Rattle.types.specs.Parts.{row, content, Root, Lawful}
+use Rattle.types.specs.Places.{Checked}
+use Rattle.types.specs.Asking.{Askable}
 use Rattle.types.specs.Tables.{rows_of}
 use Rattle.types.proofs.Rules.{lawful}
 
@@ -34,3 +36,21 @@ content_in_range (Repetition a) i c h e = none-some e
 
 pub content-small : {ts : List TypeRow} (n c : ℕ) → Lawful ts → content (row ts n) ≡ Some c → c < 512
 content-small {ts} n c law e = content_in_range (row ts n) n c (law.fit n) e
+
+-- past the end no row names a content
+content_there : (ts : List TypeRow) (n c : ℕ) → content (row ts n) ≡ Some c → n < length ts
+content_there ts n c e =
+    let past : length ts ≤ n → ⊥ = λ l. none-some (sym (ap content (get_or_past ts n EmptyChoice l)) ∙ e) in
+    omega arith
+
+-- types that can be asked about are as a check finds them, all rows being declared
+pub asked_checked : {There : Type 0} (t : TypeRows) → Askable (rows_of t) There → Checked (rows_of t) (length (rows_of t))
+asked_checked t a =
+    let ts = rows_of t in
+    let contents : (n c : ℕ) → content (row ts n) ≡ Some c → Root ts c = λ n c e. a.contents n (content_there ts n c e) c e in
+    record {
+      lawful = table-lawful t;
+      contents = contents;
+      declared_contents = λ n c l e. (contents n c e).there;
+      one_way = a.one_way;
+    }

@@ -3,4 +3,5 @@ pub mod Belonging
 pub mod Determinism
 pub mod Places
 pub mod Tables
+pub mod Asking
 pub mod Worked

@@ -1,2 +1,3 @@
 pub mod Matching
-pub mod Holding
+pub mod Walking
+pub mod Validating

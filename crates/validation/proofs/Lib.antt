@@ -1,0 +1,5 @@
+mod Descent
+mod Heading
+mod Knowing
+mod Going
+mod Taking
