@@ -16,8 +16,10 @@ class Malformed(Exception):
 
 
 class Refused(Exception):
-    def __init__(self, number, layer, row):
-        self.fault = (number, layer, row)
+    """A refusal; one by the check names the function that is typed, or 255."""
+
+    def __init__(self, number, layer, row, *function):
+        self.fault = (number, layer, row, *function)
 
 
 def digits(word):
@@ -499,6 +501,148 @@ class Types:
         return []
 
 
+class Typing:
+    """The types of expressions, in a table that grows behind the declared rows."""
+
+    def __init__(self, rows):
+        self.rows, self.types, self.function = rows, list(rows.types), 255
+
+    def stop(self, number, row):
+        raise Refused(number, 2, row, self.function)
+
+    def make(self, row, kind, a=0, b=0):
+        if len(self.types) >= 512:
+            self.stop(28, row)
+        self.types.append((kind, a, b))
+        return len(self.types) - 1
+
+    def fits(self, x, root):
+        return Types(self.types).fits(x, root)
+
+    def walk(self, row, x, item):
+        """The type of row x again, each item giving way to what `item` gives."""
+        kind, a, b = self.types[x] if x < len(self.types) else (EMPTY_CHOICE, 0, 0)
+        if INTEGER <= kind <= ANY_ELEMENT:
+            return item(x)
+        parts = {SEQUENCE: (a, b), CHOICE: (a, b), REPETITION: (a,)}.get(kind, ())
+        return self.make(row, kind, *[self.walk(row, part, item) for part in parts])
+
+    def copy(self, row, x):
+        return self.walk(row, x, lambda i: self.make(row, *self.types[i]))
+
+    def typed(self, row, variables):
+        kind, a, b, c, d = self.rows.expressions[row]
+
+        def part(n, *bound):
+            return self.typed(n, variables + list(bound))
+
+        def top(x):
+            return self.types[x][0]
+
+        def require(holds, number=26):
+            if not holds:
+                self.stop(number, row)
+
+        if kind in (1, 2, 3):
+            return self.make(row, {1: INTEGER, 2: BOOLEAN, 3: STRING}[kind])
+        if kind == 4:
+            require(a < len(variables), 24)
+            return self.copy(row, variables[a])
+        if kind == 5:
+            return self.make(row, ELEMENT, a, part(b))
+        if kind == 6:
+            return self.make(row, SEQUENCE, part(a), part(b))
+        if kind == 7:
+            return self.make(row, EMPTY_SEQUENCE)
+        if kind == 8:
+            require(top(part(a)) == BOOLEAN)
+            return self.make(row, CHOICE, part(b), part(c))
+        if kind == 9:
+            return part(b, part(a))
+        if kind == 10:
+            return self.walk(row, part(a), lambda i: part(b, i))
+        if kind == 11:
+            return self.match(row, part, part(a), b, c, d)
+        if kind == 12:
+            require(a < len(self.rows.functions), 25)
+            x = part(b)
+            parameter, result, _ = self.rows.functions[a]
+            require(self.fits(x, parameter), 27)
+            return self.copy(row, result)
+        if kind == 13:
+            return self.make(row, EMPTY_CHOICE)
+        if kind == 14:
+            for n in (a, b):
+                require(top(part(n)) == INTEGER)
+            return self.make(row, INTEGER)
+        if kind == 15:
+            x = part(a)
+            require(INTEGER <= top(x) <= BOOLEAN)
+            require(top(part(b)) == top(x))
+            return self.make(row, BOOLEAN)
+        if kind in (16, 17):
+            part(a)
+            return self.make(row, BOOLEAN if kind == 16 else INTEGER)
+        if kind == 18:
+            x = part(a)
+            require(top(x) in (ELEMENT, ANY_ELEMENT))
+            return self.copy(row, self.types[x][2])
+        x = part(a)
+        require(self.fits(x, b), 27)
+        return self.copy(row, b)
+
+    def match(self, row, part, subject, first, otherwise, count):
+        kind, tag, content = self.types[subject]
+        if not INTEGER <= kind <= ANY_ELEMENT:
+            self.stop(26, row)
+        reached, named, open_still = [], set(), True
+        for wanted, wanted_tag, body in self.rows.arms[first:first + count]:
+            if kind == ANY_ELEMENT and wanted == ELEMENT:
+                if wanted_tag not in named:
+                    named.add(wanted_tag)
+                    reached.append(part(body, self.make(row, ELEMENT, wanted_tag, content)))
+            elif (wanted == ANY_ELEMENT and kind in (ELEMENT, ANY_ELEMENT)) or (wanted == kind and (kind != ELEMENT or wanted_tag == tag)):
+                reached.append(part(body, subject))
+                open_still = False
+                break
+        if open_still:
+            reached.append(part(otherwise))
+        x = reached[0]
+        for y in reached[1:]:
+            x = self.make(row, CHOICE, x, y)
+        return x
+
+
+def check(rows):
+    """The row of the query's type and the number of rows made, or the first refusal."""
+    if rows.query is None:
+        raise Refused(21, 2, 0, 255)
+    for i, (_, _, body) in enumerate(rows.functions):
+        if body is None:
+            raise Refused(21, 2, i, 255)
+    types = rows.judged()
+    try:
+        types.check_contents()
+        for i, (parameter, result, _) in enumerate(rows.functions):
+            if not (types.is_root(parameter) and types.is_root(result)):
+                raise Refused(22, 2, i)
+        if not types.is_root(rows.query[0]):
+            raise Refused(22, 2, 0)
+        for i, (kind, _, target, _, _) in enumerate(rows.expressions):
+            if kind == 19 and not types.is_root(target):
+                raise Refused(22, 2, i)
+        types.check_roots()
+    except Refused as early:
+        raise Refused(*early.fault, 255)
+    typing = Typing(rows)
+    for typing.function, (parameter, result, body) in enumerate(rows.functions):
+        if not typing.fits(typing.typed(body, [parameter]), result):
+            typing.stop(27, body)
+    typing.function = 255
+    row = typing.typed(rows.query[1], [rows.query[0]])
+    return [row, len(typing.types) - len(rows.types)]
+
+
 class Session:
     def __init__(self):
         self.store, self.height, self.rows = Store(4, []), 0, Rows()
@@ -508,7 +652,7 @@ class Session:
         readers = {
             b"text": [hexbytes], b"type": [kind, number, number], b"function": [number, number], b"arm": [kind, number, number],
             b"expression": [kind, signed, number, number, number], b"body": [number, number], b"query": [number, number],
-            b"tags": [number], b"clear": [],
+            b"tags": [number], b"clear": [], b"check": [],
         }.get(word)
         if readers is None:
             return None
@@ -518,6 +662,8 @@ class Session:
         if word == b"clear":
             self.rows = Rows()
             return []
+        if word == b"check":
+            return check(self.rows)
         calls = {b"text": self.rows.add_text, b"type": self.rows.add_type, b"function": self.rows.add_function, b"arm": self.rows.add_arm,
                  b"expression": self.rows.add_expression, b"body": self.rows.set_body, b"query": self.rows.set_query, b"tags": self.rows.tags}
         return calls[word](*values)
@@ -609,7 +755,7 @@ def answers(script):
             yield f"{n} ? malformed"
             continue
         except Refused as r:
-            text = "refused %d %d %d" % r.fault
+            text = " ".join(["refused"] + [str(x) for x in r.fault])
         yield f"{n} {word.decode()} {text}"
 
 

@@ -12,11 +12,15 @@ pub enum Answer {
     Number(u32),
     /// The number of trees of a store, and its space.
     Measures { count: u32, space: Space },
+    /// The check was accepted: the type row of the query, and how many rows were made.
+    Checked { row: u32, made: u32 },
     /// The call was done, and gave these numbers.
     Numbers(Vec<u32>),
     /// The call printed this text. Bytes and no String: they are what stands in the buffer that it was printed into.
     Printed(Vec<u8>),
     Refused(Fault),
+    /// The check refused; the number of the function that was typed, if one was.
+    CheckRefused { fault: Fault, function: Option<u32> },
     /// The line is no call.
     Malformed,
     /// The call is past a limit of the program's own, or memory is short.

@@ -6,6 +6,9 @@ use forest::{Fault, Space};
 use std::alloc::{AllocError, Global};
 use std::fmt::Write;
 
+/// Stands for a function where none was being typed.
+const NO_FUNCTION: u32 = 255;
+
 /// The line that answers a call, without its line feed: the number of the call's line, the word of the call and the answer.
 pub fn write_answer(
     alloc: Global,
@@ -41,6 +44,7 @@ fn outcome(alloc: Global, answer: &Answer) -> Result<Vec<u8>, AllocError>
             } = *space;
             format!(in alloc; " ok {count} {trees} {children} {bytes}")?
         }
+        Answer::Checked { row, made } => format!(in alloc; " ok {row} {made}")?,
         Answer::Numbers(numbers) => {
             let mut text = format!(in alloc; " ok")?;
             push_numbers(&mut text, numbers)?;
@@ -50,6 +54,12 @@ fn outcome(alloc: Global, answer: &Answer) -> Result<Vec<u8>, AllocError>
         Answer::Refused(Fault { reason, layer, row }) => {
             let reason = u8::from(*reason);
             format!(in alloc; " refused {reason} {layer} {row}")?
+        }
+        Answer::CheckRefused { fault, function } => {
+            let Fault { reason, layer, row } = *fault;
+            let reason = u8::from(reason);
+            let function = function.unwrap_or(NO_FUNCTION);
+            format!(in alloc; " refused {reason} {layer} {row} {function}")?
         }
         Answer::Malformed => format!(in alloc; " malformed")?,
         Answer::Unsupported => format!(in alloc; " unsupported")?,

@@ -2,7 +2,7 @@
 use Rattle.std.proofs.Common.{◌≡◌, ℕ, min, List, ◌∷◌, length, take, replicate, sym, ap, subst, ◌∙◌, arith, length-take}
 use Rattle.std.specs.List.Sorted.{IsPermutation, IsNonDecreasing}
 use Rattle.answers.specs.Answers.{done}
-use Rattle.session.specs.Tables.{ProgramRows}
+use Rattle.rows.specs.Programs.{ProgramRows}
 use Rattle.session.specs.Tags.{ListsTags}
 use Rattle.console.specs.OnSession.{TagsTold}
 

@@ -8,6 +8,7 @@ use forest::Failure;
 use script::SessionCall;
 use session::Session;
 use std::alloc::Global;
+use typing::{QueryType, TypeFault};
 
 /// No session names more tags: one for each expression row and each arm.
 const MOST_TAGS: u32 = 640;
@@ -26,6 +27,10 @@ pub fn perform_on_session(alloc: Global, session: &mut Session, call: &SessionCa
         SessionCall::Expression(row) => session.add_expression(*row).into(),
         SessionCall::Body { function, row } => session.set_body(*function, *row).into(),
         SessionCall::Query(query) => session.set_query(*query).into(),
+        SessionCall::Check => match session.check() {
+            Ok(QueryType { row, made, .. }) => Answer::Checked { row, made },
+            Err(TypeFault { fault, function }) => Answer::CheckRefused { fault, function },
+        },
         SessionCall::Tags { places } => {
             list_tags(alloc, session, *places).map_or_else(Answer::from, Answer::Numbers)
         }

@@ -2,14 +2,20 @@
 use Rattle.std.specs.Prelude.{ℕ}
 use Rattle.forest.specs.declared.fault.Fault.{Fault}
 use Rattle.forest.specs.declared.fault.Reason.{Reason}
-use Rattle.forest.specs.declared.fault.Reason.TheVariants.{TableFull, FieldOutOfRange, PartTaken, TypeMissing, Ambiguous, NoSuchHandle, NestedTooDeep, OutsideType, BufferShort, SpaceShort, OutOfRange, UnlawfulTable, UnlawfulCapture}
+use Rattle.forest.specs.declared.fault.Reason.TheVariants.{TableFull, FieldOutOfRange, PartTaken, NotSet, TypeMissing, Ambiguous, Unbound, NoSuchFunction, WrongKind, Unfit, TypesFull, NoSuchHandle, NestedTooDeep, OutsideType, BufferShort, SpaceShort, OutOfRange, UnlawfulTable, UnlawfulCapture}
 
 abbrev pub number_of : Reason → ℕ
 number_of TableFull = 11
 number_of FieldOutOfRange = 12
 number_of PartTaken = 13
+number_of NotSet = 21
 number_of TypeMissing = 22
 number_of Ambiguous = 23
+number_of Unbound = 24
+number_of NoSuchFunction = 25
+number_of WrongKind = 26
+number_of Unfit = 27
+number_of TypesFull = 28
 number_of NoSuchHandle = 33
 number_of NestedTooDeep = 34
 number_of OutsideType = 35

@@ -10,10 +10,22 @@ pub enum Reason {
     FieldOutOfRange = 12,
     /// A type part that another row owns, or that is named twice.
     PartTaken = 13,
+    /// No query, or a function that has no body.
+    NotSet = 21,
     /// A named type that is not there or is no root.
     TypeMissing = 22,
     /// A root that is not one-way.
     Ambiguous = 23,
+    /// A variable that nothing binds.
+    Unbound = 24,
+    /// A function that is not there.
+    NoSuchFunction = 25,
+    /// A type of another kind than is asked for.
+    WrongKind = 26,
+    /// A type that does not fit the one that is asked for.
+    Unfit = 27,
+    /// Typing needs one more type row than a session has.
+    TypesFull = 28,
     /// A handle that the store does not have.
     NoSuchHandle = 33,
     /// More than 64 elements stand inside one another.

@@ -1,33 +1,26 @@
-//! Reads a script from standard input, a call to a line, and writes an answer to each. A capture file may be named on the command line.
+//! Reads a script from standard input, a call to a line, and writes an answer to each. A capture file may be named on the command line, and
+//! with `--explain` each refused check is told in words too.
 #![tactic(auto)]
 
+mod options;
+mod reasons;
 mod stop;
 
 use answers::Answer;
 use console::answer_line;
 use forest::Fault;
+use options::Options;
 use probe::Probe;
+use reasons::write_reasons;
 use session::Session;
+use std::fs;
 use std::io::{BufRead, BufReader, BufWriter, Write};
-use std::{env, fs};
 use stop::Stop;
 
 fn main(rt: HostRuntime) -> Result<(), Stop> {
-    let name = capture_name(&rt)?;
-    let probe = begin(&rt, name)?;
-    converse(&rt, probe)
-}
-
-/// The capture file that the command line names, if it names one.
-fn capture_name(rt: &HostRuntime) -> Result<Option<String>, Stop> {
-    let mut arguments = env::args(rt)?;
-    let _program = arguments.next();
-    let name = arguments.next();
-    // No word of the command line is an option.
-    if arguments.next().is_some() || name.as_ref().is_some_and(|word| word.starts_with('-')) {
-        return Err(Stop::Usage);
-    }
-    Ok(name)
+    let Options { explain, capture } = Options::read(&rt)?;
+    let probe = begin(&rt, capture)?;
+    converse(&rt, probe, explain)
 }
 
 /// The probe to begin with: over the capture in the file of that name, or over the empty table.
@@ -50,8 +43,8 @@ fn begin(rt: &HostRuntime, name: Option<String>) -> Result<Probe, Stop> {
     }
 }
 
-/// Answers each line of standard input.
-fn converse(rt: &HostRuntime, mut probe: Probe) -> Result<(), Stop> {
+/// Answers each line of standard input, and explains in words, where that is asked for, why a check is refused.
+fn converse(rt: &HostRuntime, mut probe: Probe, explain: bool) -> Result<(), Stop> {
     let alloc = rt.alloc();
     let mut input = BufReader::new(alloc, rt.stdin())?;
     let mut output = BufWriter::new(alloc, rt.stdout())?;
@@ -69,6 +62,9 @@ fn converse(rt: &HostRuntime, mut probe: Probe) -> Result<(), Stop> {
         if let Some(text) = answer {
             output.write_all(&text)?;
             output.write_all(b"\n")?;
+        }
+        if explain && call == b"check".as_slice() {
+            write_reasons(alloc, &session, &mut output)?;
         }
         if !input.buffer().contains(&b'\n') {
             output.flush()?;

@@ -29,7 +29,11 @@ impl From<io::Error> for Stop {
 impl fmt::Debug for Stop {
     fn fmt<W: fmt::Write>(&self, f: &mut fmt::Formatter<W>) -> fmt::Result {
         match self {
-            Stop::Usage => write!(f, "{:?}", "usage: patchprobe [CAPTURE-FILE] < SCRIPT"),
+            Stop::Usage => write!(
+                f,
+                "{:?}",
+                "usage: patchprobe [--explain] [CAPTURE-FILE] < SCRIPT"
+            ),
             Stop::OutOfMemory => write!(f, "{:?}", "memory is short"),
             Stop::File(text) => write!(f, "{text:?}"),
             Stop::Io(error) => write!(f, "{error:?}"),

@@ -8,7 +8,7 @@ use Rattle.forest.specs.Forests.{Item, Forest, forest, depth}
 use Rattle.forest.specs.Stores.{Meaning, picked, all_below}
 use Rattle.printing.specs.Outcomes.{printing, placed, placed_forest, refused as refusal}
 use Rattle.printing.specs.Printed.{printed}
-use Rattle.answers.specs.Answers.{Said, done, text, refused, malformed, unsupported}
+use Rattle.answers.specs.Answers.{Said, done, text, refused, check_refused, malformed, unsupported}
 use Rattle.script.specs.Calls.{print}
 use Rattle.probe.specs.Performing.{printed_as, NotShort, Performs}
 
@@ -49,5 +49,6 @@ pub wider : (l : ℕ) (m : Meaning) (hs : List ℕ) (n k : ℕ) (s : Said) → n
 wider l m hs n k (done ns) le not p = same m hs n k _ le not p
 wider l m hs n k (text bs) le not p = same m hs n k _ le not p
 wider l m hs n k (refused f) le not p = same m hs n k _ le not p
+wider l m hs n k (check_refused f function) le not p = p
 wider l m hs n k malformed le not p = p
 wider l m hs n k unsupported le not p = p

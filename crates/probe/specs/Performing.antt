@@ -6,7 +6,7 @@ use Rattle.forest.specs.declared.fault.Fault.{Fault}
 use Rattle.forest.specs.declared.fault.Reason.TheVariants.{BufferShort}
 use Rattle.forest.specs.Stores.{Meaning, make, asked_integer, asked_boolean, asked_string, asked_element}
 use Rattle.printing.specs.Outcomes.{Outcome, printing}
-use Rattle.answers.specs.Answers.{handle_or_fault, Said, done, text, refused, malformed, unsupported, measured}
+use Rattle.answers.specs.Answers.{handle_or_fault, Said, done, text, refused, check_refused, malformed, unsupported, measured}
 use Rattle.script.specs.Calls.{StoreAsked, capture, table, tray, space, integer, boolean, string, element, print}
 
 -- the number of trees, then the three numbers of space
@@ -46,6 +46,7 @@ performed l (print n hs) m = (printed_as (printing m.trees hs (replicate n 0)), 
 -- it was not refused for the buffer
 abbrev pub NotShort : Said → Type 0
 NotShort (refused f) = f.reason ≡ BufferShort → ⊥
+NotShort (check_refused f function) = Unit {0}
 NotShort (done ns) = Unit {0}
 NotShort (text bs) = Unit {0}
 NotShort malformed = Unit {0}
@@ -68,5 +69,6 @@ abbrev pub Performs : ℕ → StoreAsked → Meaning → Said → Meaning → Ty
 Performs l a m (done ns) n = (done ns, n) ≡ performed l a m
 Performs l a m (text bs) n = (text bs, n) ≡ performed l a m
 Performs l a m (refused f) n = (refused f, n) ≡ performed l a m
+Performs l a m (check_refused f function) n = ⊥
 Performs l a m malformed n = ⊥
 Performs l a m unsupported n = (n ≡ m) × MayLackMemory a

@@ -14,7 +14,7 @@ use Rattle.overlay.specs.Overlays.{opened}
 use Rattle.script.specs.Calls.{StoreAsked, capture, table, tray, space, integer, boolean, string, element, print}
 use Rattle.probe.specs.declared.probe.Probe.{Probe}
 use Rattle.probe.specs.declared.probe.Probe.TheVariants.{OfTable, OfCapture}
-use Rattle.answers.specs.Answers.{Said, done, text, refused, malformed, unsupported}
+use Rattle.answers.specs.Answers.{Said, done, text, refused, check_refused, malformed, unsupported}
 use Rattle.probe.specs.Performing.{measures, Performs}
 use Rattle.probe.specs.Piles.{pile_meaning, pile_layer}
 
@@ -39,6 +39,7 @@ LoadsCapture bs before (done ns) after = AllLawful bs × Loads 5 (meaning_of (ev
 LoadsCapture bs before (refused f) after = ((k : ℕ) × FirstUnlawful bs k × (f ≡ faulted UnlawfulCapture 5 k)) × (after ≡ before)
 LoadsCapture bs before unsupported after = after ≡ before
 LoadsCapture bs before (text t) after = ⊥
+LoadsCapture bs before (check_refused f function) after = ⊥
 LoadsCapture bs before malformed after = ⊥
 
 abbrev pub LoadsTable : List RawRow → List ℕ → List ℕ → State → Said → State → Type 0
@@ -46,6 +47,7 @@ LoadsTable rs es bs before (done ns) after = (refusal rs es bs ≡ None) × Load
 LoadsTable rs es bs before (refused f) after = (refusal rs es bs ≡ Some f) × (after ≡ before)
 LoadsTable rs es bs before unsupported after = after ≡ before
 LoadsTable rs es bs before (text t) after = ⊥
+LoadsTable rs es bs before (check_refused f function) after = ⊥
 LoadsTable rs es bs before malformed after = ⊥
 
 -- An overlay has the trees of the store that it is opened over, and the space that it allows.
@@ -57,6 +59,7 @@ Opens s before (done ns) after = (after ≡ overlaid_by s before) × (ns ≡ mea
 Opens s before unsupported after = after ≡ before
 Opens s before (refused f) after = ⊥
 Opens s before (text t) after = ⊥
+Opens s before (check_refused f function) after = ⊥
 Opens s before malformed after = ⊥
 
 abbrev pub OnStore : StoreAsked → State → Said → State → Type 0

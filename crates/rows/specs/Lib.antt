@@ -3,3 +3,4 @@ pub mod TypeTables
 pub mod Expressions
 pub mod Arms
 pub mod Functions
+pub mod Programs

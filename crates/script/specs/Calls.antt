@@ -9,7 +9,7 @@ use Rattle.rows.specs.declared.function.Query.{Query as RawQuery}
 use Rattle.script.specs.declared.call.StoreCall.{StoreCall}
 use Rattle.script.specs.declared.call.StoreCall.TheVariants.{Capture, Table, Tray, Space as SpaceLeft, Integer, Boolean, String, Element, Print}
 use Rattle.script.specs.declared.call.SessionCall.{SessionCall}
-use Rattle.script.specs.declared.call.SessionCall.TheVariants.{Text, «Type» as TypeRow, Function, Arm, Expression, Body, Query, Tags, Clear}
+use Rattle.script.specs.declared.call.SessionCall.TheVariants.{Text, «Type» as TypeRow, Function, Arm, Expression, Body, Query, Check, Tags, Clear}
 use Rattle.script.specs.declared.call.TypeCall.{TypeCall}
 use Rattle.script.specs.declared.call.TypeCall.TheVariants.{OneWay, Fits, Validate}
 use Rattle.script.specs.declared.call.Call.{Call}
@@ -35,6 +35,7 @@ pub data SessionAsked : Type 0 where
   arm : RawArm → SessionAsked
   expression : RawExpression → SessionAsked
   query : RawQuery → SessionAsked
+  check : SessionAsked
   tags : ℕ → SessionAsked
   clear : SessionAsked
 
@@ -69,6 +70,7 @@ asked_session (Arm given) = arm given
 asked_session (Expression row) = expression row
 asked_session (Body owner row) = body owner row
 asked_session (Query given) = query given
+asked_session Check = check
 asked_session (Tags places) = tags places
 asked_session Clear = clear
 
@@ -103,6 +105,7 @@ session_word (arm given) = codes "arm"
 session_word (expression row) = codes "expression"
 session_word (body owner row) = codes "body"
 session_word (query given) = codes "query"
+session_word check = codes "check"
 session_word (tags places) = codes "tags"
 session_word clear = codes "clear"
 

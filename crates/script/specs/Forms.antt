@@ -6,7 +6,7 @@ use Rattle.std.specs.Str.{bytes_eq}
 use Rattle.fields.specs.Bytes.{bytes_of}
 use Rattle.fields.specs.Numbers.{signed_number}
 use Rattle.fields.specs.Rows.{number8, number32, numbers_of, rows_of}
-use Rattle.script.specs.Calls.{Asked, on_store, on_session, on_types, StoreAsked, capture, table, tray, space, integer, boolean, string, element, print, SessionAsked, text, type, function, arm, expression, body, query, tags, clear, TypesAsked, one_way, fits, validate}
+use Rattle.script.specs.Calls.{Asked, on_store, on_session, on_types, StoreAsked, capture, table, tray, space, integer, boolean, string, element, print, SessionAsked, text, type, function, arm, expression, body, query, check, tags, clear, TypesAsked, one_way, fits, validate}
 use Rattle.script.specs.Patterns.{none, one, two, three, five, one_then}
 
 -- A call's word, and how the words after it are read.
@@ -45,6 +45,7 @@ session_forms =
     ∷ form "expression" (five number8 signed_number number32 number32 number32 (λ k a b c d. expression (record { kind = k; a = a; b = b; c = c; d = d })))
     ∷ form "body" (two number32 number32 body)
     ∷ form "query" (two number32 number32 (λ i r. query (record { input = i; row = r })))
+    ∷ form "check" (none check)
     ∷ form "tags" (one number32 tags)
     ∷ form "clear" (none clear)
     ∷ []

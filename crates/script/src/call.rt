@@ -59,6 +59,7 @@ pub enum SessionCall {
     Expression(RawExpression),
     Body { function: u32, row: u32 },
     Query(Query),
+    Check,
     Tags { places: u32 },
     Clear,
 }
@@ -76,6 +77,7 @@ impl SessionCall {
             SessionCall::Expression(_) => "expression",
             SessionCall::Body { .. } => "body",
             SessionCall::Query(_) => "query",
+            SessionCall::Check => "check",
             SessionCall::Tags { .. } => "tags",
             SessionCall::Clear => "clear",
         }

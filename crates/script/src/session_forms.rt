@@ -97,6 +97,13 @@ fn read_query(words: &[&[u8]]) -> Option<SessionCall>
     }))
 }
 
+/// `check`
+fn read_check(words: &[&[u8]]) -> Option<SessionCall>
+    ensures { option_map asked_session result ≡ session_call_of (codes "check") (texts words.now) }
+{
+    words.is_empty().then_some(SessionCall::Check)
+}
+
 /// `clear`
 fn read_clear(words: &[&[u8]]) -> Option<SessionCall>
     ensures { option_map asked_session result ≡ session_call_of (codes "clear") (texts words.now) }
@@ -120,6 +127,7 @@ pub(crate) fn read_session_form(
         "expression" => read_expression(words).ok_or(ReadError::Malformed),
         "body" => read_body(words).ok_or(ReadError::Malformed),
         "query" => read_query(words).ok_or(ReadError::Malformed),
+        "check" => read_check(words).ok_or(ReadError::Malformed),
         "tags" => read_one(words)
             .map(|places| SessionCall::Tags { places })
             .ok_or(ReadError::Malformed),

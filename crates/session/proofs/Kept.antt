@@ -1,8 +1,7 @@
 -- Every session keeps the rules.
-use Rattle.std.proofs.Common.{◌≡◌, ℕ, zero, suc, ◌+◌, ◌<◌, ◌≤◌, true, ◌⊎◌, List, [], ◌∷◌, length, get_or, refl, ap, ◌∙◌, inl, inr, arith}
+use Rattle.std.proofs.Common.{◌≡◌, ℕ, ◌+◌, ◌<◌, ◌≤◌, true, ◌⊎◌, List, length, get_or, ap, ◌∙◌, inl, inr, arith}
 use Rattle.std.proofs.lemmas.List.{length-take-le, get_or_past}
-use Rattle.std.proofs.lemmas.Bool.{cases_lt, and_parts}
-use Rattle.rows.specs.declared.expression.Expression.{Expression}
+use Rattle.std.proofs.lemmas.Bool.{cases_lt}
 use Rattle.rows.specs.declared.expression.Expression.TheVariants.{Error}
 use Rattle.rows.specs.declared.function.Function.{Function}
 use Rattle.rows.specs.Expressions.{expression_fits}
@@ -10,22 +9,14 @@ use Rattle.rows.specs.Arms.{arm_fits}
 use Rattle.session.specs.declared.session.Session.{Session}
 use Rattle.session.specs.Bodies.{no_function}
 use Rattle.rows.proofs.TypeTables.{keeps}
-use Rattle.session.specs.Rules.{expressions_lawful, function_right, functions_lawful}
+use Rattle.session.specs.Rules.{match_right, function_right, functions_lawful}
 use Rattle.session.specs.Tables.{declared_of, program_rows}
 use Rattle.session.specs.Calls.{tables}
 use Rattle.session.specs.Lawful.{Lawful}
 use Rattle.session.proofs.Laws.{list_all-get_or}
+use Rattle.session.proofs.Orders.{expression_fits_at, match_at}
 
 -- the other tables, place by place
-
-expression_at : (n m l : ℕ) (es : List Expression) (i : ℕ) → expressions_lawful n m l es ≡ true → expression_fits (record { expressions = n + i; arms = m; bytes = l }) (get_or es i Error) ≡ true
-expression_at n m l [] i law = refl
-expression_at n m l (e ∷ es) zero law =
-    let z : n + 0 ≡ n = omega arith in
-    ap (λ k. expression_fits (record { expressions = k; arms = m; bytes = l }) e) z ∙ (and_parts (expression_fits (record { expressions = n; arms = m; bytes = l }) e) (expressions_lawful (n + 1) m l es) law).0
-expression_at n m l (e ∷ es) (suc i) law =
-    let z : n + suc i ≡ n + 1 + i = omega arith in
-    ap (λ k. expression_fits (record { expressions = k; arms = m; bytes = l }) (get_or es i Error)) z ∙ expression_at (n + 1) m l es i (and_parts (expression_fits (record { expressions = n; arms = m; bytes = l }) e) (expressions_lawful (n + 1) m l es) law).1
 
 function_at : (n : ℕ) (fs : List Function) (i : ℕ) → functions_lawful n fs ≡ true → (i < length fs) ⊎ (length fs ≤ i) → function_right n (get_or fs i no_function) ≡ true
 function_at n fs i law (inl lt) = list_all-get_or (function_right n) fs i no_function lt law
@@ -51,7 +42,10 @@ lawful s =
       expressions_fit = λ i.
           let z : i ≡ 0 + i = omega arith in
           ap (λ k. expression_fits (record { expressions = k; arms = length rows.arms; bytes = length rows.text }) (get_or rows.expressions i Error)) z
-          ∙ expression_at 0 (length rows.arms) (length rows.text) rows.expressions i p.expressions_known;
+          ∙ expression_fits_at 0 (length rows.arms) (length rows.text) rows.expressions i p.expressions_known;
+      bodies_lower = λ i.
+          let z : i ≡ 0 + i = omega arith in
+          ap (λ k. match_right k rows.arms (get_or rows.expressions i Error)) z ∙ match_at 0 rows.arms rows.expressions i p.matches_known;
       arms_fit = λ i lt. list_all-get_or (arm_fits (length rows.expressions)) rows.arms i _ lt p.arms_known;
       functions_fit = λ i. function_at (length rows.expressions) rows.functions i p.functions_known (cases_lt i (length rows.functions));
       query_fits = p.query_known;

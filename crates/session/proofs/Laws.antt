@@ -1,8 +1,8 @@
 -- Laws of the rules on rows.
-use Rattle.std.proofs.Common.{◌≡◌, ℕ, suc, ◌+◌, ◌<◌, ◌≤◌, Bool, true, false, cond, not, ◌&&◌, eqb, ltb, List, [], ◌∷◌, ◌++◌, length, get_or, Some, None, Option, sym, refl, ap, ◌∙◌, append_assoc, arith, ltb-true, lt-ltb, le-leb, leb-true}
-use Rattle.std.proofs.lemmas.List.{append-nil}
-use Rattle.std.proofs.lemmas.Bool.{and_parts, and_from}
-use Rattle.std.proofs.lemmas.List.Elements.{All-get_or, All-push, All-set, All-weaker}
+use Rattle.std.proofs.Common.{◌≡◌, ℕ, zero, suc, ◌+◌, ◌<◌, ◌≤◌, Bool, true, false, cond, not, ◌&&◌, eqb, ltb, List, [], ◌∷◌, ◌++◌, length, get_or, take, drop, Some, None, Option, sym, refl, ap, ◌∙◌, append_assoc, arith, ltb-true, lt-ltb, le-leb, leb-true}
+use Rattle.std.proofs.lemmas.List.{append-nil, take-append-le, drop-append-le, length-drop}
+use Rattle.std.proofs.lemmas.Bool.{and_parts, and_from, cond-false, ne_eqb}
+use Rattle.std.proofs.lemmas.List.Elements.{All-get_or, All-push, All-set, All-take, All-drop, All-weaker}
 use Rattle.std.proofs.lemmas.List.Sums.{AllPass-from_list_all, list_all-from_AllPass}
 use Rattle.std.specs.List.{list_all}
 use Rattle.rows.specs.declared.type_row.TypeRow.{TypeRow}
@@ -18,7 +18,7 @@ use Rattle.rows.specs.Arms.{arm_fits, pattern_fits}
 use Rattle.rows.specs.Functions.{function_fits}
 use Rattle.session.specs.Bodies.{body_set, with_body, no_function}
 use Rattle.rows.specs.TypeTables.{free, type_right, types_lawful}
-use Rattle.session.specs.Rules.{expressions_lawful, arms_lawful, body_there, function_right, functions_lawful, query_lawful}
+use Rattle.session.specs.Rules.{expressions_lawful, arms_lawful, bodies_below, match_right, matches_lawful, body_there, function_right, functions_lawful, query_lawful}
 
 -- one row more
 
@@ -123,3 +123,90 @@ query-grow n n2 None le e = refl
 query-grow n n2 (Some q) le e =
     let p = and_parts (ltb q.input 512) (ltb q.row n) e in
     and_from (ltb q.input 512) (ltb q.row n2) p.0 (ltb-more q.row n n2 le p.1)
+
+-- the arms that a match names run lower expressions
+
+-- arms of n expressions, and so those that a match at place n names
+bodies_lower : (n : ℕ) (xs : List Arm) (from long : ℕ) → arms_lawful n xs ≡ true → bodies_below n (take long (drop from xs)) ≡ true
+bodies_lower n xs from long law =
+    let P = λ (x : Arm). ltb x.body n ≡ true in
+    let all = AllPass-from_list_all (λ x. ltb x.body n) xs (list_all-weaker (arm_fits n) (λ x. ltb x.body n) xs (λ x fits. (and_parts (pattern_fits x.pattern) (ltb x.body n) fits).1) law) in
+    list_all-from_AllPass (λ x. ltb x.body n) (take long (drop from xs)) (All-take P long (drop from xs) (All-drop P from xs all))
+
+match_lower : (n : ℕ) (xs : List Arm) (e : Expression) → arms_lawful n xs ≡ true → match_right n xs e ≡ true
+match_lower n xs Error law = refl
+match_lower n xs (Integer v) law = refl
+match_lower n xs (Boolean v) law = refl
+match_lower n xs (String i k) law = refl
+match_lower n xs (Variable v) law = refl
+match_lower n xs (Element t x) law = refl
+match_lower n xs (Sequence x y) law = refl
+match_lower n xs Empty law = refl
+match_lower n xs (If x y z) law = refl
+match_lower n xs (Let x y) law = refl
+match_lower n xs (For x y) law = refl
+match_lower n xs (Match x from long y) law = bodies_lower n xs from long law
+match_lower n xs (Call f x) law = refl
+match_lower n xs (Add x y) law = refl
+match_lower n xs (Equal x y) law = refl
+match_lower n xs (IsEmpty x) law = refl
+match_lower n xs (Count x) law = refl
+match_lower n xs (Children x) law = refl
+match_lower n xs (As x t) law = refl
+
+pub matches-push : (n : ℕ) (xs : List Arm) (es : List Expression) (e : Expression) → matches_lawful n xs es ≡ true → match_right (n + length es) xs e ≡ true → matches_lawful n xs (es ++ (e ∷ [])) ≡ true
+matches-push n xs [] e law right =
+    let z : n ≡ n + 0 = omega arith in
+    and_from (match_right n xs e) true (ap (λ k. match_right k xs e) z ∙ right) refl
+matches-push n xs (x ∷ es) e law right =
+    let p = and_parts (match_right n xs x) (matches_lawful (n + 1) xs es) law in
+    let k : n + 1 + length es ≡ n + suc (length es) = omega arith in
+    and_from (match_right n xs x) (matches_lawful (n + 1) xs (es ++ (e ∷ []))) p.0 (matches-push (n + 1) xs es e p.1 (ap (λ j. match_right j xs e) k ∙ right))
+
+pub matches-push_at : (n : ℕ) (xs : List Arm) (es : List Expression) (e : Expression) → length es ≡ n → arms_lawful n xs ≡ true → matches_lawful 0 xs es ≡ true → matches_lawful 0 xs (es ++ (e ∷ [])) ≡ true
+matches-push_at n xs es e long known law =
+    let z : 0 + length es ≡ n = omega arith in
+    matches-push 0 xs es e law (ap (λ k. match_right k xs e) z ∙ match_lower n xs e known)
+
+-- an arm more changes nothing for the matches that are there
+arms_there : (from k n : ℕ) → arms_within from (suc k) n ≡ true → within from (suc k) n ≡ true
+arms_there from k n fits = sym (cond-false (eqb (suc k) 0) (eqb from 0) (within from (suc k) n) (ne_eqb (suc k) 0 (λ e. omega arith))) ∙ fits
+
+named_same : (xs : List Arm) (x : Arm) (from long : ℕ) → arms_within from long (length xs) ≡ true → take long (drop from (xs ++ (x ∷ []))) ≡ take long (drop from xs)
+named_same xs x from zero fits = refl
+named_same xs x from (suc k) fits =
+    let le = leb-true (from + suc k) (length xs) (arms_there from k (length xs) fits) in
+    let h : from ≤ length xs = omega arith in
+    let m : suc k ≤ length (drop from xs) = omega (arith, length-drop from xs) in
+    ap (take (suc k)) (drop-append-le from xs (x ∷ []) h) ∙ take-append-le (suc k) (drop from xs) (x ∷ []) m
+
+match-more : (n l : ℕ) (xs : List Arm) (x : Arm) (e : Expression) → expression_fits (room n (length xs) l) e ≡ true → match_right n xs e ≡ true → match_right n (xs ++ (x ∷ [])) e ≡ true
+match-more n l xs x Error fits right = refl
+match-more n l xs x (Integer v) fits right = refl
+match-more n l xs x (Boolean v) fits right = refl
+match-more n l xs x (String i k) fits right = refl
+match-more n l xs x (Variable v) fits right = refl
+match-more n l xs x (Element t a) fits right = refl
+match-more n l xs x (Sequence a b) fits right = refl
+match-more n l xs x Empty fits right = refl
+match-more n l xs x (If a b c) fits right = refl
+match-more n l xs x (Let a b) fits right = refl
+match-more n l xs x (For a b) fits right = refl
+match-more n l xs x (Match a from long b) fits right =
+    let p = and_parts (ltb a n) (ltb b n && arms_within from long (length xs)) fits in
+    let q = and_parts (ltb b n) (arms_within from long (length xs)) p.1 in
+    ap (bodies_below n) (named_same xs x from long q.1) ∙ right
+match-more n l xs x (Call f a) fits right = refl
+match-more n l xs x (Add a b) fits right = refl
+match-more n l xs x (Equal a b) fits right = refl
+match-more n l xs x (IsEmpty a) fits right = refl
+match-more n l xs x (Count a) fits right = refl
+match-more n l xs x (Children a) fits right = refl
+match-more n l xs x (As a t) fits right = refl
+
+pub matches-more : (n l : ℕ) (xs : List Arm) (x : Arm) (es : List Expression) → expressions_lawful n (length xs) l es ≡ true → matches_lawful n xs es ≡ true → matches_lawful n (xs ++ (x ∷ [])) es ≡ true
+matches-more n l xs x [] fit law = refl
+matches-more n l xs x (e ∷ es) fit law =
+    let f = and_parts (expression_fits (room n (length xs) l) e) (expressions_lawful (n + 1) (length xs) l es) fit in
+    let p = and_parts (match_right n xs e) (matches_lawful (n + 1) xs es) law in
+    and_from (match_right n (xs ++ (x ∷ [])) e) (matches_lawful (n + 1) (xs ++ (x ∷ [])) es) (match-more n l xs x e f.0 p.0) (matches-more (n + 1) l xs x es f.1 p.1)

@@ -2,3 +2,14 @@ pub mod Given
 pub mod Laws
 pub mod Kept
 pub mod Marks
+pub mod Orders
+pub mod Making
+pub mod Walks
+pub mod Copying
+pub mod Fitting
+pub mod Joining
+pub mod Typings
+pub mod FunctionsTyped
+pub mod CheckCall
+pub mod Branches
+pub mod Refusals

@@ -5,7 +5,7 @@ use Rattle.std.specs.Bool.{then_some}
 use Rattle.std.specs.List.{list_any}
 use Rattle.std.specs.Option.{option_to_list, option_eq}
 use Rattle.std.proofs.lemmas.List.{get_or_append_left, drop_at}
-use Rattle.session.specs.Tables.{ProgramRows}
+use Rattle.rows.specs.Programs.{ProgramRows}
 use Rattle.session.specs.Tags.{marks, is_tag, names, lasting, distinct, tag_count, ListsTags}
 
 -- a mark among the others names the tag

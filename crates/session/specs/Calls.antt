@@ -16,6 +16,7 @@ use Rattle.rows.specs.TypeRows.{type_of, type_fits, twice}
 use Rattle.rows.specs.Expressions.{expression_of, expression_fits}
 use Rattle.rows.specs.Arms.{arm_of, arm_fits}
 use Rattle.rows.specs.Functions.{function_fits, query_fits}
+use Rattle.rows.specs.Programs.{ProgramRows}
 use Rattle.session.specs.declared.session.Phase.{Phase}
 use Rattle.session.specs.declared.session.Phase.TheVariants.{Open, Checked}
 use Rattle.session.specs.declared.session.Session.{Session}
@@ -23,7 +24,7 @@ use Rattle.session.specs.declared.calls.Accepted.{Accepted}
 use Rattle.session.specs.declared.calls.Accepted.TheVariants.{Add, Body, Query as QuerySet, Clear}
 use Rattle.session.specs.declared.type_table.TypeTable.{TypeTable}
 use Rattle.rows.specs.TypeTables.{free}
-use Rattle.session.specs.Tables.{declared_of, made_of, ProgramRows, program_rows, no_rows, room_of, with_expression, with_arm, with_function, with_text, with_body_set, with_query}
+use Rattle.session.specs.Tables.{declared_of, made_of, program_rows, no_rows, room_of, with_expression, with_arm, with_function, with_text, with_body_set, with_query}
 
 -- A session is open, or checked with the type rows that the check made.
 pub data Standing : Type 0 where

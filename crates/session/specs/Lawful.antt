@@ -11,7 +11,7 @@ use Rattle.rows.specs.TypeRows.{type_fits, owns, twice}
 use Rattle.rows.specs.Expressions.{expression_fits}
 use Rattle.rows.specs.Arms.{arm_fits}
 use Rattle.session.specs.Bodies.{no_function}
-use Rattle.session.specs.Rules.{function_right, query_lawful}
+use Rattle.session.specs.Rules.{match_right, function_right, query_lawful}
 use Rattle.session.specs.Calls.{Tables}
 
 abbrev pub type_at : Tables → ℕ → TypeRow
@@ -40,6 +40,8 @@ pub record Lawful (t : Tables) : Type 0 where
   -- fields are in range, an expression's parts are lower rows, and the arms, text and bodies that are named are there
   pub types_fit : (i : ℕ) → type_fits i (type_at t i) ≡ true
   pub expressions_fit : (i : ℕ) → expression_fits (record { expressions = i; arms = length t.program.arms; bytes = length t.program.text }) (expression_at t i) ≡ true
+  -- the arms that a match names run lower rows
+  pub bodies_lower : (i : ℕ) → match_right i t.program.arms (expression_at t i) ≡ true
   pub arms_fit : (i : ℕ) → i < length t.program.arms → arm_fits (length t.program.expressions) (arm_at t i) ≡ true
   pub functions_fit : (i : ℕ) → function_right (length t.program.expressions) (function_at t i) ≡ true
   pub query_fits : query_lawful (length t.program.expressions) t.program.query ≡ true

@@ -4,3 +4,11 @@ pub mod Tables
 pub mod Calls
 pub mod Lawful
 pub mod Tags
+pub mod Progress
+pub mod Readiness
+pub mod Kinds
+pub mod Operators
+pub mod Typings
+pub mod FunctionsTyped
+pub mod CheckCall
+pub mod Refusals

@@ -1,11 +1,12 @@
 -- What a session holds.
-use Rattle.std.specs.Prelude.{ℕ, List, [], ◌∷◌, ◌++◌, length, take, drop, Some, None, Option}
+use Rattle.std.specs.Prelude.{ℕ, List, [], ◌∷◌, ◌++◌, length, take, drop, Some, None}
 use Rattle.rows.specs.declared.type_row.TypeRow.{TypeRow}
 use Rattle.rows.specs.declared.expression.Expression.{Expression}
 use Rattle.rows.specs.declared.expression.Room.{Room}
 use Rattle.rows.specs.declared.arm.Arm.{Arm}
 use Rattle.rows.specs.declared.function.Function.{Function}
 use Rattle.rows.specs.declared.function.Query.{Query}
+use Rattle.rows.specs.Programs.{ProgramRows}
 use Rattle.session.specs.declared.program.Program.{Program}
 use Rattle.session.specs.declared.type_table.TypeTable.{TypeTable}
 use Rattle.session.specs.Bodies.{body_set}
@@ -16,14 +17,6 @@ declared_of t = take t.counts.declared t.rows
 
 abbrev pub made_of : TypeTable → List TypeRow
 made_of t = drop t.counts.declared (take t.counts.all t.rows)
-
--- all rows but the types
-pub record ProgramRows : Type 0 where
-  pub expressions : List Expression
-  pub arms : List Arm
-  pub functions : List Function
-  pub text : List ℕ
-  pub query : Option Query
 
 abbrev pub program_rows : Program → ProgramRows
 program_rows p = record {

@@ -3,7 +3,7 @@ use Rattle.std.specs.Prelude.{◌≡◌, ℕ, ◌<◌, ◌≤◌, Bool, false, c
 use Rattle.std.specs.Option.{option_to_list}
 use Rattle.rows.specs.Arms.{arm_tag}
 use Rattle.rows.specs.Expressions.{element_tag}
-use Rattle.session.specs.Tables.{ProgramRows}
+use Rattle.rows.specs.Programs.{ProgramRows}
 
 -- what each expression and each arm names
 abbrev pub marks : ProgramRows → List (Option ℕ)

@@ -1,13 +1,16 @@
 #![tactic(auto)]
 
 mod calls;
+mod checking;
 mod counts;
 mod function_table;
 mod program;
+mod reading;
 mod session;
 mod tags;
 mod type_table;
 
+pub use checking::Refused;
 pub use counts::Counts;
 pub use function_table::FunctionTable;
 pub use program::Program;

@@ -1,5 +1,6 @@
 ghost use Rattle.std.specs.Prelude.{◌≡◌, ◌+◌, ◌<◌, ◌≤◌, ◌↔◌, true, length, IsOk, OnOk, OnErr};
-ghost use Rattle.session.specs.Rules.{expressions_lawful, arms_lawful, function_right, functions_lawful, query_lawful};
+ghost use Rattle.forest.specs.Forests.{bytes_lawful};
+ghost use Rattle.session.specs.Rules.{expressions_lawful, arms_lawful, matches_lawful, function_right, functions_lawful, query_lawful};
 
 use crate::function_table::FunctionTable;
 use arrayvec::{ArrayVec, CapacityError};
@@ -17,8 +18,10 @@ pub struct Program {
     ghost expressions_few: { length expressions.items ≤ 512 },
     ghost arms_few: { length arms.items ≤ 128 },
     ghost text_few: { length text.items ≤ 4096 },
+    ghost text_bytes: { bytes_lawful text.items ≡ true },
     ghost expressions_known: { expressions_lawful 0 (length arms.items) (length text.items) expressions.items ≡ true },
     ghost arms_known: { arms_lawful (length expressions.items) arms.items ≡ true },
+    ghost matches_known: { matches_lawful 0 arms.items expressions.items ≡ true },
     ghost functions_known: { functions_lawful (length expressions.items) functions.rows.items ≡ true },
     ghost query_known: { query_lawful (length expressions.items) query ≡ true },
 }

@@ -76,7 +76,8 @@ impl TypeTable {
 
     /// Drops the rows that a check made.
     pub(crate) fn drop_made(&mut self)
-        ensures { declared_of self.new ≡ declared_of self.old }
+        ensures declared { declared_of self.new ≡ declared_of self.old }
+        ensures all { self.new.counts.all ≡ self.new.counts.declared }
     {
         self.counts.all = self.counts.declared;
     }

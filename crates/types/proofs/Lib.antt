@@ -13,3 +13,6 @@ pub mod Sound
 pub mod Complete
 pub mod Walked
 pub mod WorkedCases
+pub mod Inside
+pub mod Longer
+pub mod Tested

@@ -38,7 +38,7 @@ pub content-small : {ts : List TypeRow} (n c : ℕ) → Lawful ts → content (r
 content-small {ts} n c law e = content_in_range (row ts n) n c (law.fit n) e
 
 -- past the end no row names a content
-content_there : (ts : List TypeRow) (n c : ℕ) → content (row ts n) ≡ Some c → n < length ts
+pub content_there : (ts : List TypeRow) (n c : ℕ) → content (row ts n) ≡ Some c → n < length ts
 content_there ts n c e =
     let past : length ts ≤ n → ⊥ = λ l. none-some (sym (ap content (get_or_past ts n EmptyChoice l)) ∙ e) in
     omega arith

@@ -1,8 +1,8 @@
-use Rattle.std.proofs.Common.{◌≡◌, ◌+◌, length, ap, ◌∙◌, arith}
+use Rattle.std.proofs.Common.{◌≡◌, ◌+◌, length, refl, ap, ◌∙◌, arith}
 use Rattle.rows.specs.Expressions.{expression_fits}
-use Rattle.session.specs.Rules.{expressions_lawful}
+use Rattle.session.specs.Rules.{expressions_lawful, matches_lawful}
 use Rattle.session.specs.Tables.{program_rows}
-use Rattle.session.proofs.Laws.{expressions-push, arms-grow, functions-grow, query-grow}
+use Rattle.session.proofs.Laws.{expressions-push, matches-push_at, arms-grow, functions-grow, query-grow}
 use Rattle.session.proofs.program.Program.push_expression.Goals as goal
 
 pub invariant_of-self-clause-expressions_known : goal.invariant_of-self-clause-expressions_known
@@ -29,3 +29,9 @@ pub invariant_of-self-clause-query_known : goal.invariant_of-self-clause-query_k
 invariant_of-self-clause-query_known c =
     let p = c.args.self.now in
     query-grow (length p.expressions.items) _ p.query (omega (arith, c.push.ensures.len)) p.query_known
+
+pub invariant_of-self-clause-matches_known : goal.invariant_of-self-clause-matches_known
+invariant_of-self-clause-matches_known c =
+    let p = c.args.self.now in
+    let n = length p.expressions.items in
+    ap (matches_lawful 0 p.arms.items) c.push.ensures.items ∙ matches-push_at n p.arms.items p.expressions.items c.args.row refl p.arms_known p.matches_known

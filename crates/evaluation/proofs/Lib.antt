@@ -1,0 +1,13 @@
+pub mod WorkedRuns
+pub mod Beside
+pub mod Depth
+pub mod Onward
+pub mod Richer
+pub mod Forms
+pub mod Ends
+pub mod Stages
+pub mod Rows
+pub mod Sound
+pub mod Refused
+pub mod Promised
+pub mod Laws

@@ -1,0 +1,5 @@
+pub mod Values
+pub mod Evaluation
+pub mod Worked
+pub mod Laws
+pub mod Promises

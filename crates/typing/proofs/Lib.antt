@@ -1,0 +1,15 @@
+pub mod WorkedCase
+pub mod GrowthRows
+pub mod GrowthSteps
+pub mod GrowthMade
+pub mod GrowthChoices
+pub mod Growth
+pub mod GrowthMeaning
+pub mod Steps
+pub mod Unfolding
+pub mod Keeping
+pub mod Agreement
+pub mod Accepted
+pub mod OneAnswer
+pub mod GrowthAccepted
+pub mod GrowthTyped

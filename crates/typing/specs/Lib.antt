@@ -1,0 +1,11 @@
+pub mod Faults
+pub mod Outcomes
+pub mod Kinds
+pub mod Typing
+pub mod Worked
+pub mod Rules
+pub mod Programs
+pub mod Checking
+pub mod Growth
+pub mod Accepted
+pub mod OneAnswer

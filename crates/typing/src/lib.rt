@@ -1,0 +1,7 @@
+#![tactic(auto)]
+
+mod answer;
+mod fault;
+
+pub use answer::QueryType;
+pub use fault::TypeFault;
