@@ -68,7 +68,7 @@ impl<'a, S: Store> Printer<'a, S> {
         ensures store { self.new.store ≡ self.old.store }
         ensures text { Adds result self.old.text self.new.text (element_printed (tag_at (S.Store.means self.old.store.now).trees handle) (map item_printed (children_at (S.Store.means self.old.store.now).trees handle))) }
     {
-        self.text.push_number(self.store.tag(handle))?;
+        self.text.push_natural(u64::from(self.store.tag(handle)))?;
         self.text.push(b'[')?;
         self.write_children(handle)?;
         self.text.push(b']')

@@ -1,10 +1,11 @@
-ghost use Rattle.std.specs.Prelude.{◌≡◌, ◌<◌, ◌≤◌, [], ◌∷◌, vec_len};
+ghost use Rattle.std.specs.Prelude.{◌≡◌, ◌<◌, ◌≤◌, [], ◌∷◌, decimal, vec_len};
+ghost use Rattle.std.specs.Fmt.{signed_decimal};
 ghost use Rattle.printing.specs.Items.{separator};
 ghost use Rattle.printing.specs.Printed.{escaped, hex_digit, plain, truth};
 
 use crate::refusal::refusal;
 use forest::{Failure, Reason};
-use itoa::{Buffer, Integer};
+use itoa::Buffer;
 use std::alloc::Global;
 
 /// Text that is being written, of so many bytes at most.
@@ -58,11 +59,24 @@ impl Text {
         Ok(())
     }
 
-    /// Writes a number in decimal.
-    pub(crate) fn push_number<I: Integer>(&mut self, number: I) -> Result<(), Failure>
-        ensures { Adds result self.old self.new (I.text number) }
+    /// Writes a number in decimal. Most have one digit, which needs no buffer.
+    pub(crate) fn push_natural(&mut self, number: u64) -> Result<(), Failure>
+        ensures { Adds result self.old self.new (decimal number) }
     {
+        if number < 10 {
+            return self.push(b'0' + number as u8);
+        }
         self.push_all(Buffer::new().format(number).as_bytes())
+    }
+
+    /// Writes a number in decimal, with a minus sign if it is negative.
+    pub(crate) fn push_number(&mut self, value: i64) -> Result<(), Failure>
+        ensures { Adds result self.old self.new (signed_decimal value) }
+    {
+        if value < 0 {
+            self.push(b'-')?;
+        }
+        self.push_natural(value.unsigned_abs())
     }
 
     /// Writes `true` or `false`.
