@@ -3,8 +3,7 @@ ghost use Rattle.std.specs.Fmt.{signed_decimal};
 ghost use Rattle.printing.specs.Items.{separator};
 ghost use Rattle.printing.specs.Printed.{escaped, hex_digit, plain, truth};
 
-use crate::refusal::refusal;
-use forest::{Failure, Reason};
+use crate::stop::Stop;
 use itoa::Buffer;
 use std::alloc::Global;
 
@@ -38,29 +37,29 @@ impl Text {
     }
 
     /// Writes one byte.
-    pub(crate) fn push(&mut self, byte: u8) -> Result<(), Failure>
+    pub(crate) fn push(&mut self, byte: u8) -> Result<(), Stop>
         ensures { Adds result self.old self.new (byte ∷ []) }
     {
         if self.bytes.len() == self.limit {
-            return Err(refusal(Reason::BufferShort));
+            return Err(Stop::TooLong);
         }
         self.bytes.push(byte)?;
         Ok(())
     }
 
     /// Writes bytes.
-    fn push_all(&mut self, more: &[u8]) -> Result<(), Failure>
+    fn push_all(&mut self, more: &[u8]) -> Result<(), Stop>
         ensures { Adds result self.old self.new more.now }
     {
         if more.len() > self.limit - self.bytes.len() {
-            return Err(refusal(Reason::BufferShort));
+            return Err(Stop::TooLong);
         }
         self.bytes.extend_from_slice(more)?;
         Ok(())
     }
 
     /// Writes a number in decimal. Most have one digit, which needs no buffer.
-    pub(crate) fn push_natural(&mut self, number: u64) -> Result<(), Failure>
+    pub(crate) fn push_natural(&mut self, number: u64) -> Result<(), Stop>
         ensures { Adds result self.old self.new (decimal number) }
     {
         if number < 10 {
@@ -70,7 +69,7 @@ impl Text {
     }
 
     /// Writes a number in decimal, with a minus sign if it is negative.
-    pub(crate) fn push_number(&mut self, value: i64) -> Result<(), Failure>
+    pub(crate) fn push_number(&mut self, value: i64) -> Result<(), Stop>
         ensures { Adds result self.old self.new (signed_decimal value) }
     {
         if value < 0 {
@@ -80,14 +79,14 @@ impl Text {
     }
 
     /// Writes `true` or `false`.
-    pub(crate) fn push_boolean(&mut self, value: bool) -> Result<(), Failure>
+    pub(crate) fn push_boolean(&mut self, value: bool) -> Result<(), Stop>
         ensures { Adds result self.old self.new (truth value) }
     {
         self.push_all(if value { b"true" } else { b"false" })
     }
 
     /// Writes a byte of a String: as it is, or as a backslash and two hexadecimal digits.
-    pub(crate) fn push_escaped(&mut self, byte: u8) -> Result<(), Failure>
+    pub(crate) fn push_escaped(&mut self, byte: u8) -> Result<(), Stop>
         ensures { Adds result self.old self.new (escaped byte) }
     {
         if is_plain(byte) {
@@ -97,7 +96,7 @@ impl Text {
     }
 
     /// Writes what stands before the item at a place: a comma, unless it is the first.
-    pub(crate) fn push_separator(&mut self, place: usize) -> Result<(), Failure>
+    pub(crate) fn push_separator(&mut self, place: usize) -> Result<(), Stop>
         ensures { Adds result self.old self.new (separator place) }
     {
         if place > 0 {
