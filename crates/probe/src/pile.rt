@@ -55,14 +55,16 @@ impl<S: Store + Drop> Pile<S> {
         }
     }
 
-    /// Opens an overlay on top, or gives the pile back where memory is short or four stand there already.
+    /// Opens an overlay on top, or gives the pile back where memory is short, where child entries or text would pass a million, or where four
+    /// stand there already.
     pub fn overlay(self, alloc: Global, allowances: Space) -> Result<Pile<S>, Pile<S>>
         ensures covered { MatchResult result (λ p. (pile_layer S.Store.LAYER p ≡ 6) × (pile_meaning S.Store.means p ≡ record { trees = (pile_meaning S.Store.means self).trees; space = opened (length (pile_meaning S.Store.means self).trees) allowances })) (λ p. p ≡ self) }
         ensures few { IfOk result (λ p. (pile_height p ≡ pile_height self + 1) × (pile_height p ≤ 4)) }
     {
         match self {
             // A closure gives the pile back, since the check can't state a variant of a type parameter that is passed to be called.
-            Pile::Bare(store) => Overlay::open(alloc, store, allowances)
+            Pile::Bare(store) => Overlay::open_with_room(alloc, store, allowances, MOST_OVERLAYS - 1)
+                .or_else(|store| Overlay::open(alloc, store, allowances))
                 .map(|top| Pile::Covered { top, overlays: 1 })
                 .map_err(|store| Pile::Bare(store)),
             Pile::Covered { top, overlays } if overlays < MOST_OVERLAYS => top
