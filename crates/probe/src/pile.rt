@@ -1,5 +1,6 @@
 ghost use Rattle.std.specs.Prelude.{◌≡◌, ◌+◌, ◌≤◌, length, IfOk, MatchResult};
 ghost use Rattle.script.specs.Calls.{asked_store};
+ghost use Rattle.arena.specs.Arenas.{means_over};
 ghost use Rattle.overlay.specs.Overlays.{opened};
 ghost use Rattle.answers.specs.Answers.{said};
 ghost use Rattle.types.specs.Tables.{rows_of};
@@ -63,8 +64,7 @@ impl<S: Store + Drop> Pile<S> {
     {
         match self {
             // A closure gives the pile back, since the check can't state a variant of a type parameter that is passed to be called.
-            Pile::Bare(store) => Overlay::open_with_room(alloc, store, allowances, MOST_OVERLAYS - 1)
-                .or_else(|store| Overlay::open(alloc, store, allowances))
+            Pile::Bare(store) => first_overlay(alloc, store, allowances)
                 .map(|top| Pile::Covered { top, overlays: 1 })
                 .map_err(|store| Pile::Bare(store)),
             Pile::Covered { top, overlays } if overlays < MOST_OVERLAYS => top
@@ -77,4 +77,21 @@ impl<S: Store + Drop> Pile<S> {
             full => Err(full),
         }
     }
+}
+
+/// The first overlay of a pile, which takes memory for those after it too, for as many as there is.
+fn first_overlay<S: Store + Drop>(
+    alloc: Global,
+    mut store: S,
+    allowances: Space,
+) -> Result<Overlay<S>, S>
+    ensures { MatchResult result (λ t. means_over (S.Store.means t.below).trees t.own ≡ record { trees = (S.Store.means store).trees; space = opened (length (S.Store.means store).trees) allowances }) (λ s. s ≡ store) }
+{
+    for renewals in (0..MOST_OVERLAYS).rev() {
+        match Overlay::open_with_room(alloc, store, allowances, renewals) {
+            Ok(top) => return Ok(top),
+            Err(below) => store = below,
+        }
+    }
+    Err(store)
 }
