@@ -79,7 +79,7 @@ impl<S: Store + Drop> Pile<S> {
     }
 }
 
-/// The first overlay of a pile, which takes memory for those after it too, for as many as there is.
+/// Opens the first overlay of a pile. It takes memory for those that may come after it too, for as many of them as there is memory for.
 fn first_overlay<S: Store + Drop>(
     alloc: Global,
     mut store: S,
