@@ -29,11 +29,10 @@ impl Session {
         if marks <= list.len() {
             return Ok(program.write_tags(list) as u32);
         }
-        // The list may be too short. A large array would take a call on few rows longer than its work.
         if marks <= FEW {
-            program.list_tags(list, &mut [0; FEW])
+            program.list_few(list)
         } else {
-            program.list_tags(list, &mut [0; MARKS])
+            program.list_many(list)
         }
     }
 }
@@ -48,6 +47,22 @@ impl Program {
         let arms = self.arms.as_slice().iter();
         expressions.filter(|row| row.tag().is_some()).count()
             + arms.filter(|arm| arm.tag().is_some()).count()
+    }
+
+    /// Lists the tags of few rows. This function and the next hold an array each, since a call pays for all locals of its function.
+    fn list_few(&self, list: &mut [u32]) -> Result<u32, Fault>
+        requires { count_by is_some (marks (program_rows self.now)) ≤ FEW }
+        ensures { MatchResult result (λ n. ListsTags (program_rows self.now) n list.old list.new) (λ e. (e ≡ faulted BufferShort 1 0) × (list.new ≡ list.old) × (length list.old < tag_count (program_rows self.now))) }
+    {
+        self.list_tags(list, &mut [0; FEW])
+    }
+
+    /// Lists the tags of any program.
+    fn list_many(&self, list: &mut [u32]) -> Result<u32, Fault>
+        requires { count_by is_some (marks (program_rows self.now)) ≤ MARKS }
+        ensures { MatchResult result (λ n. ListsTags (program_rows self.now) n list.old list.new) (λ e. (e ≡ faulted BufferShort 1 0) × (list.new ≡ list.old) × (length list.old < tag_count (program_rows self.now))) }
+    {
+        self.list_tags(list, &mut [0; MARKS])
     }
 
     /// Lists the tags, which are written beside the list first, since it has to stay as it was if it is too short.
