@@ -18,7 +18,7 @@ use bits::Relation;
 use types::TypeRows;
 
 /// The moves within the rows that nothing below `end` owns.
-// The tables come one by one with their facts: `Positions` keeps each in a field of its own, so a struct around them would be built of borrows at both calls and only be taken apart here.
+// The tables come one by one: `Positions` keeps each in a field of its own, so a struct around them would be built of borrows at both calls and only be taken apart here.
 fn moves_below(
     types: &TypeRows,
     nullable: &Flags,
@@ -26,11 +26,8 @@ fn moves_below(
     lasts: &Relation<4096>,
     end: u32,
 ) -> Moves
-    requires nulls { Nulls (rows_of types.now) nullable.now.marks }
-    requires alive { Alive (rows_of types.now) alive.now.marks }
-    requires lasts { Lasts (rows_of types.now) lasts.now.words }
-    requires within { «end» ≤ length (rows_of types.now) }
-    ensures { MovesBelow (rows_of types.now) «end» result }
+    requires { «end» ≤ length (rows_of types.now) }
+    ensures { Nulls (rows_of types.now) nullable.now.marks → Alive (rows_of types.now) alive.now.marks → Lasts (rows_of types.now) lasts.now.words → MovesBelow (rows_of types.now) «end» result }
 {
     let mut next = first_items(types, nullable);
     add_all_meets(types, lasts, end, &mut next);
@@ -61,7 +58,7 @@ impl Positions {
 
     /// The moves within the rows up to this one, as if no row stood above it. Past the end they are those within whole types.
     pub fn up_to(&self, row: u32) -> Moves
-        ensures { row < length (types_of self.now) → MovesBelow (types_of self.now) (row + 1) result }
+        ensures { Built self.now → row < length (types_of self.now) → MovesBelow (types_of self.now) (row + 1) result }
     {
         if row >= self.types.count {
             return self.whole;

@@ -13,9 +13,8 @@ use types::TypeRows;
 
 /// The first items of each row. No item follows another yet.
 pub(crate) fn first_items(types: &TypeRows, nullable: &Flags) -> Relation<8192>
-    requires { Nulls (rows_of types.now) nullable.now.marks }
-    ensures firsts { Firsts (rows_of types.now) result.words }
-    ensures unfollowed { Unfollowed result.words }
+    ensures firsts { Nulls (rows_of types.now) nullable.now.marks → Firsts (rows_of types.now) result.words }
+    ensures unfollowed { Nulls (rows_of types.now) nullable.now.marks → Unfollowed result.words }
 {
     let mut next = Relation::new();
     let rows = types.as_slice();
@@ -55,12 +54,9 @@ pub(crate) fn add_all_meets(
     end: u32,
     next: &mut Relation<8192>,
 )
-    requires within { «end» ≤ length (rows_of types.now) }
-    requires lasts { Lasts (rows_of types.now) lasts.now.words }
-    requires firsts { Firsts (rows_of types.now) next.old.words }
-    requires unfollowed { Unfollowed next.old.words }
-    ensures firsts { Firsts (rows_of types.now) next.new.words }
-    ensures follows { FollowsBelow (rows_of types.now) «end» next.new.words }
+    requires { «end» ≤ length (rows_of types.now) }
+    ensures firsts { Lasts (rows_of types.now) lasts.now.words → Firsts (rows_of types.now) next.old.words → Unfollowed next.old.words → Firsts (rows_of types.now) next.new.words }
+    ensures follows { Lasts (rows_of types.now) lasts.now.words → Firsts (rows_of types.now) next.old.words → Unfollowed next.old.words → FollowsBelow (rows_of types.now) «end» next.new.words }
 {
     let rows = types.as_slice();
     for row in &rows[..end as usize] {
