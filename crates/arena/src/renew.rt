@@ -1,4 +1,4 @@
-ghost use Rattle.std.specs.Prelude.{◌≡◌, ◌+◌, ◌^◌, ◌<◌, ◌≤◌, length, true, vec_capacity, IfOk};
+ghost use Rattle.std.specs.Prelude.{◌≡◌, ◌+◌, ◌^◌, ◌<◌, ◌≤◌, length, true, false, vec_capacity, IfOk, MatchOption};
 ghost use Rattle.arena.specs.Renewal.{InPlace, Renewed, allowed_beside, has_room};
 
 use crate::arena::Arena;
@@ -49,13 +49,16 @@ impl Arena {
             && self.text.len() + space.bytes as usize <= self.text.capacity()
     }
 
-    /// Sets what `space` allows beside the rows, for which there is memory. Nothing is copied.
-    pub fn renew_in_place(&mut self, space: Space)
-        requires { has_room self.old (allowed_beside self.old space) ≡ true }
-        ensures renewed { Renewed self.old space self.new }
-        ensures in_place { InPlace self.old self.new }
+    /// Sets what `space` allows beside the rows, if there is memory for it, and copies nothing. Where there is none, nothing changes.
+    pub fn renew_in_place(&mut self, space: Space) -> Option<()>
+        ensures { MatchOption result ((has_room self.old (allowed_beside self.old space) ≡ false) × (self.new ≡ self.old)) (λ _. (has_room self.old (allowed_beside self.old space) ≡ true) × Renewed self.old space self.new × InPlace self.old self.new) }
     {
-        self.space = self.allowed_beside(space);
+        let allowed = self.allowed_beside(space);
+        if !self.has_room(allowed) {
+            return None;
+        }
+        self.space = allowed;
+        Some(())
     }
 }
 

@@ -69,7 +69,7 @@ impl<S: Store + Drop> Overlay<S> {
             return Err(self);
         }
         if self.own.has_room(allowed) {
-            self.own.renew_in_place(space);
+            self.own.renew_in_place(space).unwrap();
             return Ok(self);
         }
         match self.own.renewed(alloc, space) {
