@@ -7,10 +7,10 @@ ghost use Rattle.positions.specs.Right.{Nulls, Lasts};
 
 use crate::alive::alive_rows;
 use crate::flags::Flags;
-use crate::lasts::last_items;
+use crate::lasts::add_lasts;
 use crate::live::live_rows;
 use crate::moves::Moves;
-use crate::next::{add_all_meets, first_items};
+use crate::next::{add_all_meets, add_firsts};
 use crate::nullable::nullable_rows;
 use crate::tables::Positions;
 use crate::tops::tops_of;
@@ -29,7 +29,8 @@ fn moves_below(
     requires { «end» ≤ length (rows_of types.now) }
     ensures { Nulls (rows_of types.now) nullable.now.marks → Alive (rows_of types.now) alive.now.marks → Lasts (rows_of types.now) lasts.now.words → MovesBelow (rows_of types.now) «end» result }
 {
-    let mut next = first_items(types, nullable);
+    let mut next = Relation::new();
+    add_firsts(types, nullable, &mut next);
     add_all_meets(types, lasts, end, &mut next);
     let live = live_rows(types, alive, end);
     Moves { next, live }
@@ -44,7 +45,8 @@ impl Positions {
         let nullable = nullable_rows(&types);
         let alive = alive_rows(&types);
         let tops = tops_of(&types);
-        let lasts = last_items(&types, &nullable);
+        let mut lasts = Relation::new();
+        add_lasts(&types, &nullable, &mut lasts);
         let whole = moves_below(&types, &nullable, &alive, &lasts, types.count);
         Positions {
             types,

@@ -22,7 +22,11 @@ fn stands_alone(types: &TypeRows, item: u32, mut others: Items<'_>) -> bool
 fn is_clear(types: &TypeRows, next: &Relation<8192>, place: u32) -> bool
     ensures { Exactly result (Clear (rows_of types.now) next.now.words place) }
 {
-    next.items(place).all(|item| stands_alone(types, item, next.items_from(place, item)))
+    next.items(place).all(|item| stands_alone(
+        types,
+        item,
+        next.items_from(place, item.saturating_add(1)),
+    ))
 }
 
 /// Whether no two different items that follow an item of the root overlap.

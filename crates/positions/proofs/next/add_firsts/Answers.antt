@@ -3,7 +3,7 @@ use Rattle.types.specs.Parts.{Lawful}
 use Rattle.types.specs.Determinism.{First}
 use Rattle.positions.proofs.Growing.{filled_more}
 use Rattle.positions.proofs.Items.{first_step}
-use Rattle.positions.proofs.next.first_items.Goals as goal
+use Rattle.positions.proofs.next.add_firsts.Goals as goal
 
 pub loop-place-preserved : goal.loop-place-preserved
 loop-place-preserved c nulls =
