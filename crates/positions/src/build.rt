@@ -29,11 +29,13 @@ fn moves_below(
     requires { «end» ≤ length (rows_of types.now) }
     ensures { Nulls (rows_of types.now) nullable.now.marks → Alive (rows_of types.now) alive.now.marks → Lasts (rows_of types.now) lasts.now.words → MovesBelow (rows_of types.now) «end» result }
 {
-    let mut next = Relation::new();
-    add_firsts(types, nullable, &mut next);
-    add_all_meets(types, lasts, end, &mut next);
-    let live = live_rows(types, alive, end);
-    Moves { next, live }
+    let mut moves = Moves {
+        next: Relation::new(),
+        live: live_rows(types, alive, end),
+    };
+    add_firsts(types, nullable, &mut moves.next);
+    add_all_meets(types, lasts, end, &mut moves.next);
+    moves
 }
 
 impl Positions {
