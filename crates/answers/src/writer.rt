@@ -1,10 +1,10 @@
-ghost use Rattle.std.specs.Prelude.{◌≡◌, ◌∷◌, ◌++◌, IfOk, OnOk, string_bytes};
+ghost use Rattle.std.specs.Prelude.{◌≡◌, ◌∷◌, ◌++◌, IfOk, OnOk};
 ghost use Rattle.answers.specs.Answers.{spaced, sized, outcome, line_text, said};
 
 use crate::answer::Answer;
 use forest::{Fault, Space};
 use std::alloc::{AllocError, Global};
-use std::fmt::Write;
+use std::io::{self, Write};
 
 /// Stands for a function where none was being typed.
 const NO_FUNCTION: u32 = 255;
@@ -22,54 +22,57 @@ pub fn write_answer(
         Answer::Malformed => b"?".as_slice(),
         _ => word,
     };
-    let outcome = outcome(alloc, answer)?;
     let mut text = format!(in alloc; "{line} ")?.into_bytes();
     text.extend_from_slice(word)?;
-    text.extend_from_slice(&outcome)?;
-    Ok(text)
+    match push_outcome(&mut text, answer) {
+        Ok(()) => Ok(text),
+        // A vector takes all that is written to it while memory suffices.
+        Err(_) => Err(AllocError),
+    }
 }
 
-/// What an answer says behind the word of its call.
-fn outcome(alloc: Global, answer: &Answer) -> Result<Vec<u8>, AllocError>
-    ensures { IfOk result (λ v. v.items ≡ 32 ∷ outcome (said answer.now)) }
+/// Adds what an answer says behind the word of its call.
+fn push_outcome(text: &mut Vec<u8>, answer: &Answer) -> io::Result<()>
+    ensures { OnOk result (text.new.items ≡ text.old.items ++ (32 ∷ outcome (said answer.now))) }
 {
-    let text = match answer {
-        Answer::Done => format!(in alloc; " ok")?,
-        Answer::Number(number) => format!(in alloc; " ok {number}")?,
+    match answer {
+        Answer::Done => write!(text, " ok"),
+        Answer::Number(number) => write!(text, " ok {number}"),
         Answer::Measures { count, space } => {
             let Space {
                 trees,
                 children,
                 bytes,
             } = *space;
-            format!(in alloc; " ok {count} {trees} {children} {bytes}")?
+            write!(text, " ok {count} {trees} {children} {bytes}")
         }
-        Answer::Checked { row, made } => format!(in alloc; " ok {row} {made}")?,
+        Answer::Checked { row, made } => write!(text, " ok {row} {made}"),
         Answer::Numbers(numbers) => {
-            let mut text = format!(in alloc; " ok")?;
-            push_numbers(&mut text, numbers)?;
-            text
+            write!(text, " ok")?;
+            push_numbers(text, numbers)
         }
-        Answer::Printed(printed) => return with_printed(format!(in alloc; " ok")?, printed),
+        Answer::Printed(printed) => {
+            write!(text, " ok")?;
+            push_printed(text, printed)
+        }
         Answer::Refused(Fault { reason, layer, row }) => {
             let reason = u8::from(*reason);
-            format!(in alloc; " refused {reason} {layer} {row}")?
+            write!(text, " refused {reason} {layer} {row}")
         }
         Answer::CheckRefused { fault, function } => {
             let Fault { reason, layer, row } = *fault;
             let reason = u8::from(reason);
             let function = function.unwrap_or(NO_FUNCTION);
-            format!(in alloc; " refused {reason} {layer} {row} {function}")?
+            write!(text, " refused {reason} {layer} {row} {function}")
         }
-        Answer::Malformed => format!(in alloc; " malformed")?,
-        Answer::Unsupported => format!(in alloc; " unsupported")?,
-    };
-    Ok(text.into_bytes())
+        Answer::Malformed => write!(text, " malformed"),
+        Answer::Unsupported => write!(text, " unsupported"),
+    }
 }
 
 /// Adds numbers in decimal, a space before each.
-fn push_numbers(text: &mut String, numbers: &[u32]) -> Result<(), AllocError>
-    ensures { OnOk result (string_bytes text.new ≡ string_bytes text.old ++ spaced numbers.now) }
+fn push_numbers(text: &mut Vec<u8>, numbers: &[u32]) -> io::Result<()>
+    ensures { OnOk result (text.new.items ≡ text.old.items ++ spaced numbers.now) }
 {
     for number in numbers {
         write!(text, " {number}")?;
@@ -78,14 +81,13 @@ fn push_numbers(text: &mut String, numbers: &[u32]) -> Result<(), AllocError>
 }
 
 /// Adds the length of a text that was printed, and the text unless it is empty.
-fn with_printed(mut text: String, printed: &[u8]) -> Result<Vec<u8>, AllocError>
-    ensures { IfOk result (λ v. v.items ≡ string_bytes text ++ sized printed.now) }
+fn push_printed(text: &mut Vec<u8>, printed: &[u8]) -> io::Result<()>
+    ensures { OnOk result (text.new.items ≡ text.old.items ++ sized printed.now) }
 {
     write!(text, " {}", printed.len())?;
-    let mut bytes = text.into_bytes();
     if !printed.is_empty() {
-        bytes.push(b' ')?;
-        bytes.extend_from_slice(printed)?;
+        text.push(b' ')?;
+        text.extend_from_slice(printed)?;
     }
-    Ok(bytes)
+    Ok(())
 }

@@ -131,6 +131,7 @@ found a h le =
     elim (slice_get_cases rs i).1 [
       | inl (r, lt, is, at) ↦
           rw is record {
+            above = le;
             tree = λ ts e _.
                 let us = trees_over ts a in
                 let here : length ts + i ≡ h = omega arith in
@@ -140,6 +141,7 @@ found a h le =
           }
       | inr (past, is) ↦
           rw is record {
+            above = tt;
             tree = λ ts e _. slice_get_past (trees_over ts a) h (omega (arith, length-built ts es bs rs));
             good = tt;
           }

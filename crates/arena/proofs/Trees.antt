@@ -1,5 +1,5 @@
 -- Strings and elements: what an arena means after text or entries were put behind and a row was added.
-use Rattle.std.proofs.Common.{◌≡◌, ℕ, ◌-◌, ◌≤◌, true, ◌&&◌, List, [], ◌∷◌, ◌++◌, length, take, Ok, vec_items, Result, sym, refl, ap, ◌∙◌, arith}
+use Rattle.std.proofs.Common.{◌≡◌, ℕ, ◌+◌, ◌-◌, ◌≤◌, true, ◌&&◌, List, [], ◌∷◌, ◌++◌, length, take, Ok, vec_items, Result, sym, refl, ap, ◌∙◌, arith, length-append, le-leb}
 use Rattle.std.proofs.lemmas.List.{take_all, drop_at}
 use Rattle.forest.specs.declared.fault.Fault.{Fault}
 use Rattle.forest.specs.declared.space.Space.{Space}
@@ -13,13 +13,16 @@ use Rattle.arena.specs.declared.arena.Arena.{Arena}
 use Rattle.arena.specs.declared.row.Row.{Row}
 use Rattle.arena.specs.declared.row.Row.TheVariants.{Element}
 use Rattle.arena.specs.declared.row.Span.{Span}
-use Rattle.arena.specs.Rows.{part, row_item, sound}
+use Rattle.arena.specs.Rows.{part, within, row_item, sound}
 use Rattle.arena.specs.Arenas.{trees_over, means_over, Added, Extended, behind}
 use Rattle.arena.proofs.Builds.{sound_more, built-more}
 
 -- what was put behind is there
 pub part-behind : {X : Type 0} (xs more : List X) → part (behind xs more) (xs ++ more) ≡ more
 part-behind xs more = ap (take (length more)) (drop_at xs more (length xs) refl) ∙ take_all (length more) more (omega arith)
+
+pub within-behind : {X : Type 0} (xs more : List X) → within (behind xs more) (length (xs ++ more)) ≡ true
+within-behind xs more = le-leb (length xs + length more) (length (xs ++ more)) (omega (arith, length-append xs more))
 
 space-is : (s : Space) (k b : ℕ) → less (less s (record { trees = 0; children = k; bytes = b })) (record { trees = 1; children = 0; bytes = 0 }) ≡ less s (record { trees = 1; children = k; bytes = b })
 space-is s k b =
@@ -50,6 +53,14 @@ element-made l tag a b c hs s h x is y one room legal ts e below =
     (both-steps a b c hs [] (Element tag s) h x y ts e ∙ ap (λ k. us ++ (element tag (forest (picked us k)) ∷ [])) kids)
     (y.space ∙ ap (λ k. less k (record { trees = 1; children = 0; bytes = 0 })) x.space ∙ space-is a.space (length hs) 0 ∙ ap (λ n. less a.space (record { trees = 1; children = n; bytes = 0 })) (sym long))
     ∙ sym (ap (λ k. make l (when k i) (means_over ts a)) ask)
+
+-- the row that names what was put behind is sound
+pub string-good : (xs bs t : List ℕ) (s : Span) → s ≡ behind xs t → bs ≡ xs ++ t → within s (length bs) ≡ true
+string-good xs bs t s is e = ap (λ k. within k (length bs)) is ∙ ap (λ ys. within (behind xs t) (length ys)) e ∙ within-behind xs t
+
+pub element-good : (n tag : ℕ) (xs es hs : List ℕ) (s : Span) → s ≡ behind xs hs → es ≡ xs ++ hs → tag_lawful tag ≡ true → all_below n hs ≡ true → (tag_lawful tag && (within s (length es) && all_below n (part s es))) ≡ true
+element-good n tag xs es hs s is e legal below =
+    and_from _ _ legal (and_from _ _ (string-good xs es hs s is e) (ap (λ k. all_below n (part k es)) is ∙ ap (λ ys. all_below n (part (behind xs hs) ys)) e ∙ ap (all_below n) (part-behind xs hs) ∙ below))
 
 -- entries and text that are put behind change nothing of what is there
 

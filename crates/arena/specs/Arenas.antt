@@ -36,8 +36,9 @@ pub record Opened (n : ℕ) (s : Space) (a : Arena) : Type 0 where
   pub text : vec_items a.text ≡ []
   pub trees : (ts : List Item) → trees_over ts a ≡ ts
 
--- What stands at the handle h: a row, whose tree is the one there and which is sound, or none.
+-- What stands at the handle h: a row from the base on, whose tree is the one there and which is sound, or none.
 pub record Found (a : Arena) (h : ℕ) (o : Option Row) : Type 0 where
+  pub above : IfSome o (λ _. a.base ≤ h)
   pub tree : Reads a h (λ us. slice_get us h ≡ option_map (row_item us (vec_items a.children) (vec_items a.text)) o)
   pub good : IfSome o (λ r. row_sound h (vec_items a.children) (vec_items a.text) r ≡ true)
 

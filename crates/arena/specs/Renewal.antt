@@ -1,5 +1,5 @@
 -- An arena that is opened again, with space of its own.
-use Rattle.std.specs.Prelude.{◌≡◌, ◌-◌, min, List, length, vec_items}
+use Rattle.std.specs.Prelude.{◌≡◌, ◌+◌, ◌-◌, min, Bool, ◌&&◌, List, length, nat_le, vec_items, vec_len, vec_capacity}
 use Rattle.forest.specs.Forests.{Item}
 use Rattle.forest.specs.declared.space.Space.{Space}
 use Rattle.arena.specs.declared.arena.Arena.{Arena}
@@ -17,3 +17,11 @@ pub record Renewed (a : Arena) (s : Space) (b : Arena) : Type 0 where
   pub text : vec_items b.text ≡ vec_items a.text
   pub space : b.space ≡ allowed_beside a s
   pub trees : (ts : List Item) → trees_over ts b ≡ trees_over ts a
+
+-- whether a has memory for s beside what it has
+abbrev pub has_room : Arena → Space → Bool
+has_room a s = nat_le (vec_len a.rows + s.trees) (vec_capacity a.rows) && (nat_le (vec_len a.children + s.children) (vec_capacity a.children) && nat_le (vec_len a.text + s.bytes) (vec_capacity a.text))
+
+-- b has the rows, entries and text of a where they lie: nothing was copied.
+abbrev pub InPlace : Arena → Arena → Type 0
+InPlace a b = (b.rows ≡ a.rows) × (b.children ≡ a.children) × (b.text ≡ a.text)

@@ -1,5 +1,6 @@
-ghost use Rattle.std.specs.Prelude.{◌≡◌, IfOk};
+ghost use Rattle.std.specs.Prelude.{◌≡◌, ◌+◌, true, IfOk};
 ghost use Rattle.arena.specs.Arenas.{Opened};
+ghost use Rattle.arena.specs.Renewal.{has_room};
 
 use crate::arena::Arena;
 use forest::Space;
@@ -13,14 +14,32 @@ impl Arena {
     pub fn open(alloc: Global, base: u32, space: Space) -> Result<Arena, AllocError>
         ensures { IfOk result (Opened base space) }
     {
+        let room = Space {
+            trees: 0,
+            children: 0,
+            bytes: 0,
+        };
+        Arena::open_with_room(alloc, base, space, room)
+    }
+
+    /// An arena such as `open` gives, and memory for `room` beside what `space` allows.
+    pub fn open_with_room(
+        alloc: Global,
+        base: u32,
+        space: Space,
+        room: Space,
+    ) -> Result<Arena, AllocError>
+        ensures opened { IfOk result (Opened base space) }
+        ensures room { IfOk result (λ a. has_room a (record { trees = a.space.trees + room.trees; children = a.space.children + room.children; bytes = a.space.bytes + room.bytes }) ≡ true) }
+    {
         let trees = space.trees.min(MOST.saturating_sub(base));
         let children = space.children.min(MOST);
         let bytes = space.bytes.min(MOST);
         Ok(Arena {
             base: base.min(MOST),
-            rows: Vec::with_capacity(alloc, trees as usize)?,
-            children: Vec::with_capacity(alloc, children as usize)?,
-            text: Vec::with_capacity(alloc, bytes as usize)?,
+            rows: Vec::with_capacity(alloc, trees as usize + room.trees as usize)?,
+            children: Vec::with_capacity(alloc, children as usize + room.children as usize)?,
+            text: Vec::with_capacity(alloc, bytes as usize + room.bytes as usize)?,
             space: Space {
                 trees,
                 children,

@@ -76,14 +76,11 @@ impl Store for Capture {
         let Some(place) = self.place(handle) else {
             return 0;
         };
-        if index >= self.child_count(handle) {
-            return 0;
-        }
         match place {
-            Place::Capture => 1 + TREES_PER_EVENT * index,
-            Place::Event(_) => handle + 1 + 2 * index,
-            Place::Part(_, _) => handle + 1,
-            Place::Value(_, _) => 0,
+            Place::Capture if (index as usize) < self.events.len() => 1 + TREES_PER_EVENT * index,
+            Place::Event(_) if (index as usize) < PARTS.len() => handle + 1 + 2 * index,
+            Place::Part(_, _) if index == 0 => handle + 1,
+            _ => 0,
         }
     }
 

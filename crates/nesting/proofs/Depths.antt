@@ -1,15 +1,19 @@
 -- Depths of items, of lists of items, and of what is marked.
-use Rattle.std.proofs.Common.{◌≡◌, ℕ, zero, suc, ◌+◌, ◌-◌, ◌<◌, max, Bool, true, false, cond, ltb, List, [], ◌∷◌, length, get_or, drop, set, replicate, sym, refl, ap, ◌∙◌, arith, Some, ◌&&◌, ◌||◌}
+use Rattle.std.proofs.Common.{◌≡◌, ℕ, zero, suc, ◌+◌, ◌-◌, ◌<◌, ◌≤◌, max, Bool, true, false, cond, ltb, List, [], ◌∷◌, length, get_or, drop, set, replicate, sym, refl, ap, ◌∙◌, arith, Some, ◌&&◌, ◌||◌}
 use Rattle.std.specs.List.{list_any, enumerate_from}
 use Rattle.std.proofs.lemmas.Bool.{lt-ltb}
-use Rattle.std.proofs.lemmas.List.{drop_more}
+use Rattle.std.proofs.lemmas.List.{drop_more, drop_all}
 use Rattle.forest.proofs.Items.{forest-items}
-use Rattle.forest.specs.Forests.{integer, string, boolean, Item, scalar, element, forest, depth}
+use Rattle.forest.specs.Forests.{integer, string, boolean, Forest, Item, scalar, element, before, forest, depth}
 use Rattle.forest.specs.declared.kind.Kind.TheVariants.{Element}
 use Rattle.forest.specs.Stores.{nothing, children_at, kind_at}
 use Rattle.std.specs.Option.{option_eq}
 use Rattle.forest.specs.contracts.kind.KindPartialEq.TheImpl.{eq-value as same_kind_of}
 use Rattle.nesting.specs.Levels.{item_depth, deepest}
+
+pub depth-before : (i : Item) (f : Forest) → depth (before i f) ≡ max (item_depth i) (depth f)
+depth-before (scalar s) f = omega arith
+depth-before (element t c) f = refl
 
 -- one mark more
 mark_more : (m : Bool) (d : ℕ) → max (cond m d 0) d ≡ d
@@ -37,6 +41,9 @@ depth-children (t ∷ ts) (suc h) = depth-children ts h
 -- one place of a walk along the marks
 pub deepest-more : (ts : List Item) (ms : List Bool) (h : ℕ) → h < length ts → h < length ms → deepest (drop h ts) (drop h ms) ≡ max (cond (get_or ms h false) (item_depth (get_or ts h nothing)) 0) (deepest (drop (h + 1) ts) (drop (h + 1) ms))
 deepest-more ts ms h lt within = rw (drop_more ts h nothing, drop_more ms h false)
+
+pub deepest-all : (ts : List Item) (ms : List Bool) (h : ℕ) → length ts ≤ h → deepest (drop h ts) (drop h ms) ≡ 0
+deepest-all ts ms h le = ap (λ is. deepest is (drop h ms)) (drop_all h ts le)
 
 -- an element is what has a depth
 pub element-deep : (ts : List Item) (h : ℕ) → option_eq same_kind_of.it (kind_at ts h) (Some Element) ≡ ltb 0 (item_depth (get_or ts h nothing))

@@ -1,7 +1,8 @@
-ghost use Rattle.std.specs.Prelude.{◌≡◌, ◌<◌, min, true, ◌↔◌, length, MatchResult, IsTrue};
+ghost use Rattle.std.specs.Prelude.{◌≡◌, ◌+◌, ◌*◌, ◌<◌, true, ◌↔◌, length, IfOk, MatchResult, IsTrue};
 ghost use Rattle.forest.specs.Forests.{forest, lawful};
 ghost use Rattle.arena.specs.Arenas.{means_over};
-ghost use Rattle.overlay.specs.Overlays.{opened};
+ghost use Rattle.arena.specs.Renewal.{InPlace, allowed_beside, has_room};
+ghost use Rattle.overlay.specs.Overlays.{cut, opened};
 
 use arena::Arena;
 use forest::{Fault, Kind, Space, Store};
@@ -29,29 +30,55 @@ impl<S: Store + Drop> Overlay<S> {
     pub fn open(alloc: Global, below: S, allowances: Space) -> Result<Overlay<S>, S>
         ensures { MatchResult result (λ t. means_over (S.Store.means t.below).trees t.own ≡ record { trees = (S.Store.means below).trees; space = opened (length (S.Store.means below).trees) allowances }) (λ s. s ≡ below) }
     {
-        match Arena::open(alloc, below.count(), cut(allowances)) {
+        Overlay::open_with_room(alloc, below, allowances, 0)
+    }
+
+    /// Opens an overlay as `open` does, and takes memory for so many renewals too. Where memory is short for all of it the store comes back
+    /// as it was.
+    pub fn open_with_room(
+        alloc: Global,
+        below: S,
+        allowances: Space,
+        renewals: u8,
+    ) -> Result<Overlay<S>, S>
+        ensures opened { MatchResult result (λ t. means_over (S.Store.means t.below).trees t.own ≡ record { trees = (S.Store.means below).trees; space = opened (length (S.Store.means below).trees) allowances }) (λ s. s ≡ below) }
+        ensures room { IfOk result (λ t. has_room t.own (record { trees = t.own.space.trees + renewals * 2048; children = t.own.space.children + renewals * 4096; bytes = t.own.space.bytes + renewals * 4096 }) ≡ true) }
+    {
+        let renewals = u32::from(renewals);
+        let room = Space {
+            trees: renewals * MOST.trees,
+            children: renewals * MOST.children,
+            bytes: renewals * MOST.bytes,
+        };
+        match Arena::open_with_room(alloc, below.count(), cut(allowances), room) {
             Ok(own) => Ok(Overlay { below, own }),
             Err(_) => Err(below),
         }
     }
 
-    /// The overlay with these allowances in place of what was left of its own, as if another were opened over it. Where memory is short,
-    /// or it holds almost a million of anything, it comes back as it was.
-    pub fn renew(self, alloc: Global, allowances: Space) -> Result<Overlay<S>, Overlay<S>>
-        ensures { MatchResult result (λ t. means_over (S.Store.means t.below).trees t.own ≡ record { trees = (means_over (S.Store.means self.below).trees self.own).trees; space = opened (length (means_over (S.Store.means self.below).trees self.own).trees) allowances }) (λ t. t ≡ self) }
+    /// The overlay with these allowances in place of what was left of its own, as if another were opened over it. Nothing is copied where it
+    /// has memory for them; else all of its trees are. Where memory is short, or child entries or text would pass a million, it comes back as
+    /// it was.
+    pub fn renew(mut self, alloc: Global, allowances: Space) -> Result<Overlay<S>, Overlay<S>>
+        ensures renewed { MatchResult result (λ t. means_over (S.Store.means t.below).trees t.own ≡ record { trees = (means_over (S.Store.means self.below).trees self.own).trees; space = opened (length (means_over (S.Store.means self.below).trees self.own).trees) allowances }) (λ t. t ≡ self) }
+        ensures in_place { IfOk result (λ t. has_room self.own (allowed_beside self.own (cut allowances)) ≡ true → InPlace self.own t.own) }
     {
         let space = cut(allowances);
-        let Ok(own) = self.own.renewed(alloc, space) else {
-            return Err(self);
-        };
-        let allowed = own.space();
+        let allowed = self.own.allowed_beside(space);
         if allowed.children < space.children || allowed.bytes < space.bytes {
             return Err(self);
         }
-        Ok(Overlay {
-            below: self.below,
-            own,
-        })
+        if self.own.has_room(allowed) {
+            self.own.renew_in_place(space).unwrap();
+            return Ok(self);
+        }
+        match self.own.renewed(alloc, space) {
+            Ok(own) => Ok(Overlay {
+                below: self.below,
+                own,
+            }),
+            Err(_) => Err(self),
+        }
     }
 
     /// Whether a handle is one of the store below.
@@ -64,7 +91,7 @@ impl<S: Store + Drop> Overlay<S> {
 
 /// Allowances, as far as an overlay may have them.
 fn cut(allowances: Space) -> Space
-    ensures { result ≡ record { trees = min allowances.trees 2048; children = min allowances.children 4096; bytes = min allowances.bytes 4096 } }
+    ensures { result ≡ cut allowances }
 {
     Space {
         trees: allowances.trees.min(MOST.trees),

@@ -9,5 +9,4 @@ mod Marks
 mod Remainders
 mod Fresh
 pub mod Reading
-pub mod Settled
 pub mod Closing

@@ -1,5 +1,5 @@
 -- Items that overlap.
-use Rattle.std.proofs.Common.{◌≡◌, ℕ, ◌+◌, ◌<◌, ◌≤◌, Bool, true, false, eqb, List, length, get_or, slice_index, Some, None, Option, sym, refl, ap, ◌∙◌, subst, inl, inr, arith}
+use Rattle.std.proofs.Common.{◌≡◌, ℕ, ◌+◌, ◌<◌, min, Bool, true, false, eqb, List, length, get_or, slice_index, Some, None, Option, sym, refl, ap, ◌∙◌, subst, inl, inr, arith}
 use Rattle.std.specs.Bool.{MatchBool}
 use Rattle.std.specs.List.{AllWithin, HoldsAt, enumerate_from}
 use Rattle.std.proofs.lemmas.List.FromFn.{length-enumerate_from, get_or-enumerate_from}
@@ -32,33 +32,37 @@ both_meet_sym None (Some y) = refl
 both_meet_sym (Some x) None = refl
 both_meet_sym (Some x) (Some y) = meets-sym x y
 
--- no item of the row from m on, but m itself, overlaps m
+-- the first item behind m, as a number of 32 bits
+abbrev pub next_of : ℕ → ℕ
+next_of m = min (m + 1) 4294967295
+
+-- no item of the row behind m overlaps m
 abbrev pub AloneFrom : List TypeRow → List ℕ → ℕ → ℕ → Type 0
-AloneFrom ts ws place m = (n : ℕ) → m ≤ n → n < 512 → related ws place n ≡ true → overlaps (row ts m) (row ts n) ≡ true → n ≡ m
+AloneFrom ts ws place m = (n : ℕ) → m < n → n < 512 → related ws place n ≡ true → overlaps (row ts m) (row ts n) ≡ true → n ≡ m
 
 module _ (ts : List TypeRow) (ws : List ℕ) (place : ℕ) where
-  pub alone_from : (m : ℕ) → Alone ts m (row_items ws place m) → AloneFrom ts ws place m
-  alone_from m h = each_item ws place m (λ n. overlaps (row ts m) (row ts n) ≡ true → n ≡ m) (λ k d l b. h k d b)
+  pub alone_from : (m : ℕ) → m < 512 → Alone ts m (row_items ws place (next_of m)) → AloneFrom ts ws place m
+  alone_from m s h n l = each_item ws place (next_of m) (λ n. overlaps (row ts m) (row ts n) ≡ true → n ≡ m) (λ k d l b. h k d b) n (omega arith)
 
-  pub from_alone : (m : ℕ) → AloneFrom ts ws place m → Alone ts m (row_items ws place m)
-  from_alone m h = all_items ws place m (λ n. overlaps (row ts m) (row ts n) ≡ true → n ≡ m) h
+  pub from_alone : (m : ℕ) → m < 512 → AloneFrom ts ws place m → Alone ts m (row_items ws place (next_of m))
+  from_alone m s h = all_items ws place (next_of m) (λ n. overlaps (row ts m) (row ts n) ≡ true → n ≡ m) (λ n l. h n (omega arith))
 
-  -- no two items overlap exactly if each overlaps none from itself on
+  -- no two items overlap exactly if each overlaps none behind it
   pub clear_of : ((m : ℕ) → m < 512 → related ws place m ≡ true → AloneFrom ts ws place m) → Clear ts ws place
   clear_of all m n l h x y o = elim (cases_order m n) [
     | inl e ↦ e
-    | inr (inl i) ↦ sym (all m l x n (omega arith) h y o)
-    | inr (inr i) ↦ all n h y m (omega arith) l x (both_meet_sym (label (row ts n)) (label (row ts m)) ∙ o)
+    | inr (inl i) ↦ sym (all m l x n i h y o)
+    | inr (inr i) ↦ all n h y m i l x (both_meet_sym (label (row ts n)) (label (row ts m)) ∙ o)
   ]
 
   pub of_clear : Clear ts ws place → (m : ℕ) → m < 512 → related ws place m ≡ true → AloneFrom ts ws place m
   of_clear c m l x n le h y o = sym (c m n l h x y o)
 
-  -- each item stands alone from itself on, or one does not
-  pub clear_by : (r : Bool) → MatchBool r (AllWithin (λ m. Alone ts m (row_items ws place m)) (row_items ws place 0) 0 (length (row_items ws place 0))) ((k : ℕ) × (k < length (row_items ws place 0)) × HoldsAt (λ m. Alone ts m (row_items ws place m) → ⊥) (row_items ws place 0) k)
+  -- each item stands alone among those behind it, or one does not
+  pub clear_by : (r : Bool) → MatchBool r (AllWithin (λ m. Alone ts m (row_items ws place (next_of m))) (row_items ws place 0) 0 (length (row_items ws place 0))) ((k : ℕ) × (k < length (row_items ws place 0)) × HoldsAt (λ m. Alone ts m (row_items ws place (next_of m)) → ⊥) (row_items ws place 0) k)
       → Exactly r (Clear ts ws place)
-  clear_by true h = (λ _. clear_of (λ m l x. alone_from m (each_item ws place 0 (λ m. Alone ts m (row_items ws place m)) h m (omega arith) l x)), λ _. tt)
-  clear_by false h = (λ x. absurd x, λ c. let s = some_item ws place 0 (λ m. Alone ts m (row_items ws place m) → ⊥) (h.0, (h.1, h.2)) in s.1.3 (from_alone s.0 (of_clear c s.0 s.1.1 s.1.2)))
+  clear_by true h = (λ _. clear_of (λ m l x. alone_from m l (each_item ws place 0 (λ m. Alone ts m (row_items ws place (next_of m))) h m (omega arith) l x)), λ _. tt)
+  clear_by false h = (λ x. absurd x, λ c. let s = some_item ws place 0 (λ m. Alone ts m (row_items ws place (next_of m)) → ⊥) (h.0, (h.1, h.2)) in s.1.3 (from_alone s.0 s.1.1 (of_clear c s.0 s.1.1 s.1.2)))
 
 -- each row of the root has clear items behind it, or one has not
 module _ (ts : List TypeRow) (ws tops : List ℕ) (root : ℕ) where

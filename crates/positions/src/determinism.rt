@@ -3,7 +3,7 @@ ghost use Rattle.bits.specs.Items.{items_left};
 ghost use Rattle.types.specs.Parts.{Root};
 ghost use Rattle.types.specs.Determinism.{Deterministic};
 ghost use Rattle.types.specs.Tables.{rows_of, Exactly, Lowest};
-ghost use Rattle.positions.specs.Built.{types_of, top};
+ghost use Rattle.positions.specs.Built.{Built, types_of, top};
 ghost use Rattle.positions.specs.Filling.{Alone, Clear, ClearItems};
 
 use crate::tables::Positions;
@@ -22,7 +22,11 @@ fn stands_alone(types: &TypeRows, item: u32, mut others: Items<'_>) -> bool
 fn is_clear(types: &TypeRows, next: &Relation<8192>, place: u32) -> bool
     ensures { Exactly result (Clear (rows_of types.now) next.now.words place) }
 {
-    next.items(place).all(|item| stands_alone(types, item, next.items_from(place, item)))
+    next.items(place).all(|item| stands_alone(
+        types,
+        item,
+        next.items_from(place, item.saturating_add(1)),
+    ))
 }
 
 /// Whether no two different items that follow an item of the root overlap.
@@ -45,7 +49,7 @@ impl Positions {
 
     /// Whether a root is one-way: no two different overlapping items may come next at one place of it.
     pub fn is_one_way(&self, root: u32) -> bool
-        ensures { Root (types_of self.now) root → Exactly result (Deterministic (types_of self.now) root) }
+        ensures { Built self.now → Root (types_of self.now) root → Exactly result (Deterministic (types_of self.now) root) }
     {
         root < self.types.count
             && is_clear(&self.types, &self.whole.next, root)
@@ -54,14 +58,14 @@ impl Positions {
 
     /// The lowest root that is not one-way.
     pub fn first_ambiguous(&self) -> Option<u32>
-        ensures { Lowest result (types_of self.now) (λ n. Root (types_of self.now) n → Deterministic (types_of self.now) n) }
+        ensures { Built self.now → Lowest result (types_of self.now) (λ n. Root (types_of self.now) n → Deterministic (types_of self.now) n) }
     {
         (0..self.types.count).find(|row| !self.is_unambiguous(*row))
     }
 
     /// Whether a row is no root, or one that is one-way.
     fn is_unambiguous(&self, row: u32) -> bool
-        ensures { row < length (types_of self.now) → Exactly result (Root (types_of self.now) row → Deterministic (types_of self.now) row) }
+        ensures { Built self.now → row < length (types_of self.now) → Exactly result (Root (types_of self.now) row → Deterministic (types_of self.now) row) }
     {
         self.top(row) != row || self.is_one_way(row)
     }

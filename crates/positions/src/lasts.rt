@@ -1,3 +1,5 @@
+ghost use Rattle.std.specs.Prelude.{◌≡◌, ℕ, false};
+ghost use Rattle.bits.specs.Bits.{bit};
 ghost use Rattle.types.specs.Tables.{rows_of};
 ghost use Rattle.positions.specs.Right.{Nulls, Lasts};
 
@@ -6,15 +8,14 @@ use crate::flags::Flags;
 use bits::Relation;
 use types::TypeRows;
 
-/// The last items of each row.
-pub(crate) fn last_items(types: &TypeRows, nullable: &Flags) -> Relation<4096>
-    requires { Nulls (rows_of types.now) nullable.now.marks }
-    ensures { Lasts (rows_of types.now) result.words }
+/// Adds the last items of each row to an empty relation, which is filled where it lies.
+pub(crate) fn add_lasts(types: &TypeRows, nullable: &Flags, lasts: &mut Relation<4096>)
+    requires nulls { Nulls (rows_of types.now) nullable.now.marks }
+    requires empty { (j : ℕ) → bit lasts.old.words j ≡ false }
+    ensures { Lasts (rows_of types.now) lasts.new.words }
 {
-    let mut lasts = Relation::new();
     let rows = types.as_slice();
     for (place, row) in rows.iter().enumerate() {
-        add_ends(&mut lasts, nullable, place as u32, turn(*row));
+        add_ends(lasts, nullable, place as u32, turn(*row));
     }
-    lasts
 }

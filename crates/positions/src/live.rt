@@ -19,9 +19,8 @@ fn for_left(row: TypeRow, own: bool, alive: &Flags) -> bool
 /// The rows behind which all that is left has a forest, within the rows that nothing below `end` owns.
 /// Rows from the highest down give their parts what they have.
 pub(crate) fn live_rows(types: &TypeRows, alive: &Flags, end: u32) -> Flags
-    requires within { «end» ≤ length (rows_of types.now) }
-    requires alive { Alive (rows_of types.now) alive.now.marks }
-    ensures { LiveBelow (rows_of types.now) «end» result.marks }
+    requires { «end» ≤ length (rows_of types.now) }
+    ensures { Alive (rows_of types.now) alive.now.marks → LiveBelow (rows_of types.now) «end» result.marks }
 {
     let mut live = Flags::all(true);
     let rows = &types.as_slice()[..end as usize];

@@ -1,6 +1,6 @@
-ghost use Rattle.std.specs.Prelude.{◌≡◌, ℕ, ◌<◌, ◌≤◌, true, ◌&&◌, length};
+ghost use Rattle.std.specs.Prelude.{◌≡◌, ℕ, ◌<◌, ◌≤◌, true, false, ◌&&◌, length};
 ghost use Rattle.rows.specs.TypeRows.{owns};
-ghost use Rattle.bits.specs.Bits.{related};
+ghost use Rattle.bits.specs.Bits.{bit, related};
 ghost use Rattle.types.specs.Tables.{rows_of};
 ghost use Rattle.positions.specs.Filling.{meets_by, Followed};
 ghost use Rattle.positions.specs.Right.{Nulls, Firsts, Lasts, Unfollowed, FollowsBelow};
@@ -11,18 +11,16 @@ use bits::Relation;
 use rows::TypeRow;
 use types::TypeRows;
 
-/// The first items of each row. No item follows another yet.
-pub(crate) fn first_items(types: &TypeRows, nullable: &Flags) -> Relation<8192>
-    requires { Nulls (rows_of types.now) nullable.now.marks }
-    ensures firsts { Firsts (rows_of types.now) result.words }
-    ensures unfollowed { Unfollowed result.words }
+/// Adds the first items of each row to an empty relation, which is filled where it lies. No item follows another yet.
+pub(crate) fn add_firsts(types: &TypeRows, nullable: &Flags, next: &mut Relation<8192>)
+    requires { (j : ℕ) → bit next.old.words j ≡ false }
+    ensures firsts { Nulls (rows_of types.now) nullable.now.marks → Firsts (rows_of types.now) next.new.words }
+    ensures unfollowed { Nulls (rows_of types.now) nullable.now.marks → Unfollowed next.new.words }
 {
-    let mut next = Relation::new();
     let rows = types.as_slice();
     for (place, row) in rows.iter().enumerate() {
-        add_ends(&mut next, nullable, place as u32, *row);
+        add_ends(next, nullable, place as u32, *row);
     }
-    next
 }
 
 /// Lets the firsts of `right` follow each last of `left`.
@@ -55,12 +53,9 @@ pub(crate) fn add_all_meets(
     end: u32,
     next: &mut Relation<8192>,
 )
-    requires within { «end» ≤ length (rows_of types.now) }
-    requires lasts { Lasts (rows_of types.now) lasts.now.words }
-    requires firsts { Firsts (rows_of types.now) next.old.words }
-    requires unfollowed { Unfollowed next.old.words }
-    ensures firsts { Firsts (rows_of types.now) next.new.words }
-    ensures follows { FollowsBelow (rows_of types.now) «end» next.new.words }
+    requires { «end» ≤ length (rows_of types.now) }
+    ensures firsts { Lasts (rows_of types.now) lasts.now.words → Firsts (rows_of types.now) next.old.words → Unfollowed next.old.words → Firsts (rows_of types.now) next.new.words }
+    ensures follows { Lasts (rows_of types.now) lasts.now.words → Firsts (rows_of types.now) next.old.words → Unfollowed next.old.words → FollowsBelow (rows_of types.now) «end» next.new.words }
 {
     let rows = types.as_slice();
     for row in &rows[..end as usize] {

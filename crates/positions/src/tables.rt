@@ -1,6 +1,4 @@
 ghost use Rattle.std.specs.Prelude.{◌≡◌, length};
-ghost use Rattle.types.specs.Tables.{rows_of};
-ghost use Rattle.positions.specs.Tables.{TablesOf};
 
 use crate::flags::Flags;
 use crate::moves::Moves;
@@ -23,5 +21,4 @@ pub struct Positions {
     /// The moves within whole types.
     pub whole: Moves,
     ghost tops_long: { length tops ≡ 512 },
-    ghost built: { ∥ TablesOf (rows_of types) nullable.marks alive.marks tops lasts.words whole ∥₁ },
 }

@@ -4,11 +4,12 @@ use Rattle.std.proofs.lemmas.Bool.{and_parts, cond-true, cond-false, ltb-true, l
 use Rattle.forest.specs.Forests.{Forest, Item, scalar, element, before, depth, forest}
 use Rattle.forest.specs.Stores.{all_below, nothing, picked}
 use Rattle.forest.specs.declared.failure.Failure.{Failure}
-use Rattle.forest.specs.declared.failure.Failure.TheVariants.{Refused, OutOfMemory}
+use Rattle.printing.specs.declared.stop.Stop.{Stop}
+use Rattle.printing.specs.declared.stop.Stop.TheVariants.{TooLong, OutOfMemory}
 use Rattle.printing.specs.Items.{item_printed, printed_at}
 use Rattle.printing.specs.Outcomes.{Prints, placed, printing}
 use Rattle.printing.specs.Printed.{joined, texts}
-use Rattle.printing.specs.Writing.{Adds}
+use Rattle.printing.specs.Writing.{Adds, failure_of}
 use Rattle.printing.specs.declared.text.Text.{Text}
 use Rattle.printing.proofs.Readings.{printed-there}
 
@@ -30,14 +31,14 @@ module _ (ts : List Item) (hs buffer : List ℕ) (there : true ≡ all_below (le
       let f = forest (picked ts hs) in
       ap (λ xs. placed (joined xs) buffer) (texts-picked ts hs (sym there)) ∙ sym (cond-true (all_below (length ts) hs) _ _ (sym there) ∙ cond-false (ltb 64 (depth f)) _ _ (sym flat))
 
-  short_by : (X : Type 0) (e : Failure) (t v : Text) → vec_items t.bytes ≡ [] → t.limit ≡ length buffer → Adds {X = X} (Err e) t v (joined (map (printed_at ts) hs)) → Prints ts hs buffer (Err e) buffer
-  short_by X (Refused f) t v empty limit a =
+  short_by : (X : Type 0) (e : Stop) (t v : Text) → vec_items t.bytes ≡ [] → t.limit ≡ length buffer → Adds {X = X} (Err e) t v (joined (map (printed_at ts) hs)) → Prints ts hs buffer (Err (failure_of e)) buffer
+  short_by X TooLong t v empty limit a =
       let text = joined (map (printed_at ts) hs) in
-      let long : length buffer < length text = omega (arith, a.1, ap (λ xs. length (xs ++ text)) empty) in
-      ap (λ x. record { answer = Err (Refused x); buffer = buffer }) a.0 ∙ sym (cond-true (ltb (length buffer) (length text)) _ _ (lt-ltb (length buffer) (length text) long)) ∙ placed-is
+      let long : length buffer < length text = omega (arith, a, ap (λ xs. length (xs ++ text)) empty) in
+      sym (cond-true (ltb (length buffer) (length text)) _ _ (lt-ltb (length buffer) (length text) long)) ∙ placed-is
   short_by X OutOfMemory t v empty limit a = refl
 
-  pub prints_short : {X : Type 0} (p : Result X Failure) (r : Result ℕ Failure) (e : Failure) (t v : Text) → p ≡ Err e → r ≡ Err e → vec_items t.bytes ≡ [] → t.limit ≡ length buffer → Adds p t v (joined (map (printed_at ts) hs)) → Prints ts hs buffer r buffer
+  pub prints_short : {X : Type 0} (p : Result X Stop) (r : Result ℕ Failure) (e : Stop) (t v : Text) → p ≡ Err e → r ≡ Err (failure_of e) → vec_items t.bytes ≡ [] → t.limit ≡ length buffer → Adds p t v (joined (map (printed_at ts) hs)) → Prints ts hs buffer r buffer
   prints_short {X} p r e t v was failed empty limit a =
       let refused = subst (λ x. Adds x t v (joined (map (printed_at ts) hs))) was a in
       subst (λ x. Prints ts hs buffer x buffer) (sym failed) (short_by X e t v empty limit refused)

@@ -3,6 +3,7 @@
 mod output;
 mod printer;
 mod refusal;
+mod stop;
 mod text;
 
 pub use output::print;

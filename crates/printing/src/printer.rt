@@ -4,8 +4,9 @@ ghost use Rattle.printing.specs.Items.{item_printed, printed_at};
 ghost use Rattle.printing.specs.Printed.{element_printed, joined, quoted};
 ghost use Rattle.printing.specs.Writing.{Adds};
 
+use crate::stop::Stop;
 use crate::text::Text;
-use forest::{Failure, Kind, Store};
+use forest::{Kind, Store};
 use std::alloc::Global;
 
 /// What prints trees of a store, and the text so far. A text that grows too long ends the walk, so printing costs no more than there is
@@ -37,7 +38,7 @@ impl<'a, S: Store> Printer<'a, S> {
     }
 
     /// Writes the trees that handles name, parted by commas.
-    pub(crate) fn write_forest(&mut self, handles: &[u32]) -> Result<(), Failure>
+    pub(crate) fn write_forest(&mut self, handles: &[u32]) -> Result<(), Stop>
         ensures { Adds result self.old.text self.new.text (joined (map (printed_at (S.Store.means self.old.store.now).trees) handles.now)) }
     {
         for (place, handle) in handles.iter().enumerate() {
@@ -49,7 +50,7 @@ impl<'a, S: Store> Printer<'a, S> {
 
     /// Writes the tree that a handle names; nothing for one that is not there.
     #[cycle(write_children_write_element_write_item)]
-    fn write_item(&mut self, handle: u32) -> Result<(), Failure>
+    fn write_item(&mut self, handle: u32) -> Result<(), Stop>
         ensures store { self.new.store ≡ self.old.store }
         ensures text { Adds result self.old.text self.new.text (printed_at (S.Store.means self.old.store.now).trees handle) }
     {
@@ -64,11 +65,11 @@ impl<'a, S: Store> Printer<'a, S> {
 
     /// Writes a tag, and the children in brackets.
     #[cycle(write_children_write_element_write_item)]
-    fn write_element(&mut self, handle: u32) -> Result<(), Failure>
+    fn write_element(&mut self, handle: u32) -> Result<(), Stop>
         ensures store { self.new.store ≡ self.old.store }
         ensures text { Adds result self.old.text self.new.text (element_printed (tag_at (S.Store.means self.old.store.now).trees handle) (map item_printed (children_at (S.Store.means self.old.store.now).trees handle))) }
     {
-        self.text.push_number(self.store.tag(handle))?;
+        self.text.push_natural(u64::from(self.store.tag(handle)))?;
         self.text.push(b'[')?;
         self.write_children(handle)?;
         self.text.push(b']')
@@ -76,7 +77,7 @@ impl<'a, S: Store> Printer<'a, S> {
 
     /// Writes the children of an element, parted by commas.
     #[cycle(write_children_write_element_write_item)]
-    fn write_children(&mut self, handle: u32) -> Result<(), Failure>
+    fn write_children(&mut self, handle: u32) -> Result<(), Stop>
         ensures store { self.new.store ≡ self.old.store }
         ensures text { Adds result self.old.text self.new.text (joined (map item_printed (children_at (S.Store.means self.old.store.now).trees handle))) }
     {
@@ -89,7 +90,7 @@ impl<'a, S: Store> Printer<'a, S> {
     }
 
     /// Writes a String in quotes.
-    fn write_string(&mut self, handle: u32) -> Result<(), Failure>
+    fn write_string(&mut self, handle: u32) -> Result<(), Stop>
         ensures store { self.new.store ≡ self.old.store }
         ensures text { Adds result self.old.text self.new.text (quoted (text_at (S.Store.means self.old.store.now).trees handle)) }
     {

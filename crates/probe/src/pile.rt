@@ -1,5 +1,6 @@
 ghost use Rattle.std.specs.Prelude.{◌≡◌, ◌+◌, ◌≤◌, length, IfOk, MatchResult};
 ghost use Rattle.script.specs.Calls.{asked_store};
+ghost use Rattle.arena.specs.Arenas.{means_over};
 ghost use Rattle.overlay.specs.Overlays.{opened};
 ghost use Rattle.answers.specs.Answers.{said};
 ghost use Rattle.types.specs.Tables.{rows_of};
@@ -55,14 +56,15 @@ impl<S: Store + Drop> Pile<S> {
         }
     }
 
-    /// Opens an overlay on top, or gives the pile back where memory is short or four stand there already.
+    /// Opens an overlay on top, or gives the pile back where memory is short, where child entries or text would pass a million, or where four
+    /// stand there already.
     pub fn overlay(self, alloc: Global, allowances: Space) -> Result<Pile<S>, Pile<S>>
         ensures covered { MatchResult result (λ p. (pile_layer S.Store.LAYER p ≡ 6) × (pile_meaning S.Store.means p ≡ record { trees = (pile_meaning S.Store.means self).trees; space = opened (length (pile_meaning S.Store.means self).trees) allowances })) (λ p. p ≡ self) }
         ensures few { IfOk result (λ p. (pile_height p ≡ pile_height self + 1) × (pile_height p ≤ 4)) }
     {
         match self {
             // A closure gives the pile back, since the check can't state a variant of a type parameter that is passed to be called.
-            Pile::Bare(store) => Overlay::open(alloc, store, allowances)
+            Pile::Bare(store) => first_overlay(alloc, store, allowances)
                 .map(|top| Pile::Covered { top, overlays: 1 })
                 .map_err(|store| Pile::Bare(store)),
             Pile::Covered { top, overlays } if overlays < MOST_OVERLAYS => top
@@ -75,4 +77,21 @@ impl<S: Store + Drop> Pile<S> {
             full => Err(full),
         }
     }
+}
+
+/// Opens the first overlay of a pile. It takes memory for those that may come after it too, for as many of them as there is memory for.
+fn first_overlay<S: Store + Drop>(
+    alloc: Global,
+    mut store: S,
+    allowances: Space,
+) -> Result<Overlay<S>, S>
+    ensures { MatchResult result (λ t. means_over (S.Store.means t.below).trees t.own ≡ record { trees = (S.Store.means store).trees; space = opened (length (S.Store.means store).trees) allowances }) (λ s. s ≡ store) }
+{
+    for renewals in (0..MOST_OVERLAYS).rev() {
+        match Overlay::open_with_room(alloc, store, allowances, renewals) {
+            Ok(top) => return Ok(top),
+            Err(below) => store = below,
+        }
+    }
+    Err(store)
 }

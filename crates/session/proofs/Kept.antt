@@ -1,26 +1,17 @@
 -- Every session keeps the rules.
-use Rattle.std.proofs.Common.{◌≡◌, ℕ, ◌+◌, ◌<◌, ◌≤◌, true, ◌⊎◌, List, length, get_or, ap, ◌∙◌, inl, inr, arith}
-use Rattle.std.proofs.lemmas.List.{length-take-le, get_or_past}
-use Rattle.std.proofs.lemmas.Bool.{cases_lt}
+use Rattle.std.proofs.Common.{◌≡◌, ◌+◌, ◌≤◌, length, get_or, ap, ◌∙◌, arith}
+use Rattle.std.proofs.lemmas.List.{length-take-le}
 use Rattle.rows.specs.declared.expression.Expression.TheVariants.{Error}
-use Rattle.rows.specs.declared.function.Function.{Function}
 use Rattle.rows.specs.Expressions.{expression_fits}
 use Rattle.rows.specs.Arms.{arm_fits}
 use Rattle.session.specs.declared.session.Session.{Session}
-use Rattle.session.specs.Bodies.{no_function}
 use Rattle.rows.proofs.TypeTables.{keeps}
-use Rattle.session.specs.Rules.{match_right, function_right, functions_lawful}
+use Rattle.session.specs.Rules.{match_right}
 use Rattle.session.specs.Tables.{declared_of, program_rows}
 use Rattle.session.specs.Calls.{tables}
 use Rattle.session.specs.Lawful.{Lawful}
-use Rattle.session.proofs.Laws.{list_all-get_or}
+use Rattle.session.proofs.Laws.{list_all-get_or, function_at}
 use Rattle.session.proofs.Orders.{expression_fits_at, match_at}
-
--- the other tables, place by place
-
-function_at : (n : ℕ) (fs : List Function) (i : ℕ) → functions_lawful n fs ≡ true → (i < length fs) ⊎ (length fs ≤ i) → function_right n (get_or fs i no_function) ≡ true
-function_at n fs i law (inl lt) = list_all-get_or (function_right n) fs i no_function lt law
-function_at n fs i law (inr le) = ap (function_right n) (get_or_past fs i no_function le)
 
 pub lawful : (s : Session) → Lawful (tables s)
 lawful s =
@@ -47,6 +38,6 @@ lawful s =
           let z : i ≡ 0 + i = omega arith in
           ap (λ k. match_right k rows.arms (get_or rows.expressions i Error)) z ∙ match_at 0 rows.arms rows.expressions i p.matches_known;
       arms_fit = λ i lt. list_all-get_or (arm_fits (length rows.expressions)) rows.arms i _ lt p.arms_known;
-      functions_fit = λ i. function_at (length rows.expressions) rows.functions i p.functions_known (cases_lt i (length rows.functions));
+      functions_fit = λ i. function_at (length rows.expressions) rows.functions i p.functions_known;
       query_fits = p.query_known;
     }

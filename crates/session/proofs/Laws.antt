@@ -1,7 +1,7 @@
 -- Laws of the rules on rows.
-use Rattle.std.proofs.Common.{◌≡◌, ℕ, zero, suc, ◌+◌, ◌<◌, ◌≤◌, Bool, true, false, cond, not, ◌&&◌, eqb, ltb, List, [], ◌∷◌, ◌++◌, length, get_or, take, drop, Some, None, Option, sym, refl, ap, ◌∙◌, append_assoc, arith, ltb-true, lt-ltb, le-leb, leb-true}
-use Rattle.std.proofs.lemmas.List.{append-nil, take-append-le, drop-append-le, length-drop}
-use Rattle.std.proofs.lemmas.Bool.{and_parts, and_from, cond-false, ne_eqb}
+use Rattle.std.proofs.Common.{◌≡◌, ℕ, zero, suc, ◌+◌, ◌<◌, ◌≤◌, Bool, true, false, cond, not, ◌&&◌, eqb, ltb, ◌⊎◌, inl, inr, List, [], ◌∷◌, ◌++◌, length, get_or, take, drop, Some, None, Option, sym, refl, ap, ◌∙◌, append_assoc, arith, ltb-true, lt-ltb, le-leb, leb-true}
+use Rattle.std.proofs.lemmas.List.{append-nil, get_or_past, take-append-le, drop-append-le, length-drop}
+use Rattle.std.proofs.lemmas.Bool.{and_parts, and_from, cases_lt, cond-false, ne_eqb}
 use Rattle.std.proofs.lemmas.List.Elements.{All-get_or, All-push, All-set, All-take, All-drop, All-weaker}
 use Rattle.std.proofs.lemmas.List.Sums.{AllPass-from_list_all, list_all-from_AllPass}
 use Rattle.std.specs.List.{list_all}
@@ -55,10 +55,17 @@ list_all-push p xs x law fits = list_all-from_AllPass p (xs ++ (x ∷ [])) (All-
 list_all-weaker : {X : Type 0} (p q : X → Bool) (xs : List X) → ((x : X) → p x ≡ true → q x ≡ true) → list_all p xs ≡ true → list_all q xs ≡ true
 list_all-weaker p q xs weaker law = list_all-from_AllPass q xs (All-weaker (λ x. p x ≡ true) (λ x. q x ≡ true) weaker xs (AllPass-from_list_all p xs law))
 
-pub functions-set : (n : ℕ) (fs : List Function) (f row : ℕ) → functions_lawful n fs ≡ true → f < length fs → ltb row n ≡ true → functions_lawful n (body_set fs f row) ≡ true
-functions-set n fs f row law lt there =
+function_in : (n : ℕ) (fs : List Function) (i : ℕ) → functions_lawful n fs ≡ true → (i < length fs) ⊎ (length fs ≤ i) → function_right n (get_or fs i no_function) ≡ true
+function_in n fs i law (inl lt) = list_all-get_or (function_right n) fs i no_function lt law
+function_in n fs i law (inr le) = ap (function_right n) (get_or_past fs i no_function le)
+
+pub function_at : (n : ℕ) (fs : List Function) (i : ℕ) → functions_lawful n fs ≡ true → function_right n (get_or fs i no_function) ≡ true
+function_at n fs i law = function_in n fs i law (cases_lt i (length fs))
+
+pub functions-set : (n : ℕ) (fs : List Function) (f row : ℕ) → functions_lawful n fs ≡ true → ltb row n ≡ true → functions_lawful n (body_set fs f row) ≡ true
+functions-set n fs f row law there =
     let g = get_or fs f no_function in
-    let fits = (and_parts (function_fits g) (body_there n g.body) (list_all-get_or (function_right n) fs f no_function lt law)).0 in
+    let fits = (and_parts (function_fits g) (body_there n g.body) (function_at n fs f law)).0 in
     let right = and_from (function_fits g) (ltb row n) fits there in
     list_all-from_AllPass (function_right n) (body_set fs f row) (All-set (λ x. function_right n x ≡ true) fs f (with_body g row) right (AllPass-from_list_all (function_right n) fs law))
 

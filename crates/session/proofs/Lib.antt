@@ -2,6 +2,7 @@ pub mod Given
 pub mod Laws
 pub mod Kept
 pub mod Marks
+pub mod Firsts
 pub mod Orders
 pub mod Making
 pub mod Walks

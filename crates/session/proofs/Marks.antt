@@ -55,7 +55,7 @@ each [] i lt = absurd (not-suc-le-zero lt)
 each (None ∷ os) i lt = each os i lt
 each (Some t ∷ os) i lt = each-by (names os t) t os i (each os) lt
 
-abbrev Found : List ℕ → ℕ → Type 0
+abbrev pub Found : List ℕ → ℕ → Type 0
 Found xs t = (i : ℕ) × (i < length xs) × (get_or xs i 0 ≡ t)
 
 later : (s t : ℕ) (xs : List ℕ) → Found xs t → Found (s ∷ xs) t
@@ -76,7 +76,7 @@ all [] t e = cc
 all (None ∷ os) t e = all os t e
 all (Some s ∷ os) t e = all-by (names os s) s t os refl (all os t) (which s t os (or_cases (eqb s t) (names os t) e))
 
-abbrev Apart : List ℕ → Type 0
+abbrev pub Apart : List ℕ → Type 0
 Apart xs = (i j : ℕ) → i < length xs → j < length xs → get_or xs i 0 ≡ get_or xs j 0 → i ≡ j
 
 once_by : (b : Bool) (t : ℕ) (os : List (Option ℕ)) → names os t ≡ b → Apart (distinct os) → Apart (step b t os)
@@ -86,23 +86,36 @@ once_by false t os is rec zero (suc j) li lj e = absurd (both_ways (names os t) 
 once_by false t os is rec (suc i) zero li lj e = absurd (both_ways (names os t) is (ap (names os) (sym e) ∙ each os i (le_of_suc-le-suc li)))
 once_by false t os is rec (suc i) (suc j) li lj e = ap suc (rec i j (le_of_suc-le-suc li) (le_of_suc-le-suc lj) e)
 
-once : (os : List (Option ℕ)) → Apart (distinct os)
+pub once : (os : List (Option ℕ)) → Apart (distinct os)
 once [] i j li lj e = absurd (not-suc-le-zero li)
 once (None ∷ os) i j li lj e = once os i j li lj e
 once (Some t ∷ os) i j li lj e = once_by (names os t) t os refl (once os) i j li lj e
 
--- a list that begins with the distinct tags
-pub lists : (p : ProgramRows) (n : ℕ) (before after : List ℕ) → n ≡ tag_count p → n ≤ length before → after ≡ distinct (marks p) ++ drop n before → ListsTags p n before after
-lists p n before after is le eq =
+-- there are no more of them than marks
+
+at_most_one : (o : Option ℕ) → length (option_to_list o) ≤ 1
+at_most_one None = omega arith
+at_most_one (Some t) = omega arith
+
+pub distinct-few : (os : List (Option ℕ)) → length (distinct os) ≤ length os
+distinct-few [] = omega arith
+distinct-few (o ∷ os) = omega (arith, length-append (option_to_list (lasting o os)) (distinct os), at_most_one (lasting o os), distinct-few os)
+
+-- a list that begins with the named tags, each once
+pub listed : (p : ProgramRows) (n : ℕ) (before after ts : List ℕ) → n ≡ tag_count p → n ≡ length ts → n ≤ length before → after ≡ ts ++ drop n before → ((i : ℕ) → i < length ts → names (marks p) (get_or ts i 0) ≡ true) → ((t : ℕ) → names (marks p) t ≡ true → Found ts t) → Apart ts → ListsTags p n before after
+listed p n before after ts is long le eq each all once =
     let os = marks p in
-    let ds = distinct os in
-    let front = λ (i : ℕ) (lt : i < length ds). ap (λ xs. get_or xs i 0) eq ∙ get_or_append_left ds (drop n before) 0 i lt in
+    let front = λ (i : ℕ) (lt : i < length ts). ap (λ xs. get_or xs i 0) eq ∙ get_or_append_left ts (drop n before) 0 i lt in
     record {
       number = is;
-      long = ap length eq ∙ omega (arith, length-append ds (drop n before), length-drop n before);
+      long = ap length eq ∙ omega (arith, length-append ts (drop n before), length-drop n before);
       there = le;
-      each = λ i lt. let h : i < length ds = omega arith in let q = named_in os (get_or ds i 0) (each os i h) in (q.0, q.1 ∙ ap (λ n. Some n) (sym (front i h)));
-      all = λ t named. let q = all os t (in_named os named.0 t named.1) in (q.0, (let h = q.1 in omega arith), front q.0 q.1 ∙ q.2);
-      once = λ i j li lj e. let hi : i < length ds = omega arith in let hj : j < length ds = omega arith in once os i j hi hj (sym (front i hi) ∙ e ∙ front j hj);
-      rest = ap (drop n) eq ∙ drop_at ds (drop n before) n (sym is);
+      each = λ i lt. let h : i < length ts = omega arith in let q = named_in os (get_or ts i 0) (each i h) in (q.0, q.1 ∙ ap (λ n. Some n) (sym (front i h)));
+      all = λ t named. let q = all t (in_named os named.0 t named.1) in (q.0, (let h = q.1 in omega arith), front q.0 q.1 ∙ q.2);
+      once = λ i j li lj e. let hi : i < length ts = omega arith in let hj : j < length ts = omega arith in once i j hi hj (sym (front i hi) ∙ e ∙ front j hj);
+      rest = ap (drop n) eq ∙ drop_at ts (drop n before) n (sym long);
     }
+
+-- a list that begins with the distinct tags
+pub lists : (p : ProgramRows) (n : ℕ) (before after : List ℕ) → n ≡ tag_count p → n ≤ length before → after ≡ distinct (marks p) ++ drop n before → ListsTags p n before after
+lists p n before after is le eq = let os = marks p in listed p n before after (distinct os) is is le eq (each os) (all os) (once os)

@@ -1,3 +1,4 @@
+pub mod Held
 pub mod Rules
 pub mod Bodies
 pub mod Tables

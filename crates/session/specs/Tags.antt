@@ -1,5 +1,6 @@
 -- The tags that rows name.
 use Rattle.std.specs.Prelude.{◌≡◌, ℕ, ◌<◌, ◌≤◌, Bool, false, cond, ◌||◌, List, [], ◌∷◌, ◌++◌, map, length, drop, Some, None, Option, ◌==◌, slice_index, slice_index_or}
+use Rattle.std.specs.List.{list_any}
 use Rattle.std.specs.Option.{option_to_list}
 use Rattle.rows.specs.Arms.{arm_tag}
 use Rattle.rows.specs.Expressions.{element_tag}
@@ -34,6 +35,16 @@ distinct (o ∷ os) = option_to_list (lasting o os) ++ distinct os
 -- how many tags are named
 abbrev pub tag_count : ProgramRows → ℕ
 tag_count p = length (distinct (marks p))
+
+-- the tags, and behind them what is named, unless it is one of them
+abbrev pub with_mark : List ℕ → Option ℕ → List ℕ
+with_mark ts None = ts
+with_mark ts (Some t) = cond (list_any (λ s. s == t) ts) ts (ts ++ (t ∷ []))
+
+-- the same for one mark after the other
+abbrev pub with_marks : List ℕ → List (Option ℕ) → List ℕ
+with_marks ts [] = ts
+with_marks ts (o ∷ os) = with_marks (with_mark ts o) os
 
 -- The first n places of the list hold each named tag once and nothing else; the other places are as they were.
 pub record ListsTags (p : ProgramRows) (n : ℕ) (before after : List ℕ) : Type 0 where

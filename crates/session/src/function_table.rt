@@ -1,14 +1,14 @@
 ghost use Rattle.std.specs.Prelude.{◌≡◌, ◌<◌, ◌≤◌, [], ◌∷◌, ◌++◌, length};
 ghost use Rattle.session.specs.Bodies.{body_set};
 
-use arrayvec::ArrayVec;
+use crate::table::Table;
 use rows::Function;
 
 /// The functions. They are a table of their own: setting a body is a call of this table alone, so that no other part of a session can
 /// change with it. The project asks for that form.
 #[derive(Drop)]
 pub struct FunctionTable {
-    pub(crate) rows: ArrayVec<Function, 32>,
+    pub(crate) rows: Table<Function, 32>,
     ghost few: { length rows.items ≤ 32 },
 }
 
@@ -25,6 +25,14 @@ impl FunctionTable {
         requires { function < length self.old.rows.items }
         ensures { self.new.rows.items ≡ body_set self.old.rows.items function row }
     {
-        self.rows[function as usize].body = Some(row);
+        let place = function as usize;
+        let unset = self.rows.as_slice()[place];
+        self.rows.set(
+            place,
+            Function {
+                body: Some(row),
+                ..unset
+            },
+        );
     }
 }

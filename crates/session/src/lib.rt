@@ -7,6 +7,7 @@ mod function_table;
 mod program;
 mod reading;
 mod session;
+mod table;
 mod tags;
 mod type_table;
 
@@ -15,4 +16,5 @@ pub use counts::Counts;
 pub use function_table::FunctionTable;
 pub use program::Program;
 pub use session::{Phase, Session};
+pub use table::Table;
 pub use type_table::TypeTable;

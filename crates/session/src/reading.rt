@@ -16,7 +16,7 @@ impl Session {
     pub fn function(&self, number: u32) -> Option<Function>
         ensures { result ≡ slice_get (tables self.now).program.functions number }
     {
-        self.program.functions.rows.get(number as usize).copied()
+        self.program.functions.rows.get(number as usize)
     }
 
     /// The number of functions.
@@ -30,6 +30,6 @@ impl Session {
     pub fn expression(&self, row: u32) -> Option<Expression>
         ensures { result ≡ slice_get (tables self.now).program.expressions row }
     {
-        self.program.expressions.get(row as usize).copied()
+        self.program.expressions.get(row as usize)
     }
 }

@@ -5,7 +5,7 @@ use crate::counts::Counts;
 use rows::TypeRow;
 use types::TypeRows;
 
-/// The type rows: the declared ones keep the rules on parts. They lie in a plain array and not in an array vector, since the counts
+/// The type rows: the declared ones keep the rules on parts. They lie in a plain array and not in a `Table`, since the counts
 /// have to stand in a record of their own, which the guard of a check will borrow alone (docs/DECISIONS.md).
 #[derive(Drop)]
 pub struct TypeTable {

@@ -15,7 +15,7 @@ pub struct Pair {
 }
 
 /// The pairs of places that a search has come to, and those of them that it has yet to look at.
-#[derive(Drop)]
+#[derive(Clone, Copy)]
 pub struct Pairs {
     pub(crate) visited: Relation<16384>,
     pub(crate) waiting: Relation<16384>,

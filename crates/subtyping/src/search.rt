@@ -4,7 +4,7 @@ ghost use Rattle.types.specs.Belonging.{Subtype};
 ghost use Rattle.types.specs.Places.{covers, Checked};
 ghost use Rattle.types.specs.Tables.{Exactly};
 ghost use Rattle.positions.specs.Below.{flag};
-ghost use Rattle.positions.specs.Built.{types_of};
+ghost use Rattle.positions.specs.Built.{types_of, Built};
 ghost use Rattle.subtyping.specs.Worklist.{Put};
 ghost use Rattle.subtyping.specs.Comparison.{moves_at, Answers, Leads, Expanded, Looked, Verdict, Small};
 
@@ -124,9 +124,9 @@ impl Search<'_> {
     }
 }
 
-/// Whether every forest of a row belongs to a root, where contents are roots and declared roots are one-way.
+/// Whether every forest of a row belongs to a root, where the tables are right, contents are roots and declared roots are one-way.
 pub fn is_subtype(positions: &Positions, row: u32, root: u32) -> bool
-    ensures { row < length (types_of positions.now) → Root (types_of positions.now) root → (declared : ℕ) → Checked (types_of positions.now) declared → root < declared → Exactly result (Subtype (types_of positions.now) row root) }
+    ensures { Built positions.now → row < length (types_of positions.now) → Root (types_of positions.now) root → (declared : ℕ) → Checked (types_of positions.now) declared → root < declared → Exactly result (Subtype (types_of positions.now) row root) }
 {
     if row >= 512 || root >= 512 {
         return false;

@@ -2,7 +2,7 @@
 use Rattle.std.proofs.Common.{◌≡◌, ℕ, ◌+◌, ◌-◌, ◌<◌, ◌≤◌, min, true, false, cond, List, [], ◌∷◌, ◌++◌, length, get_or, drop, Some, None, Ok, Err, Option, Result, vec_items, vec_len, sym, refl, ap, ◌∙◌, append_assoc, arith, length-append, le-leb}
 use Rattle.std.specs.Option.{option_to_list}
 use Rattle.std.specs.Result.{result_ok}
-use Rattle.std.proofs.lemmas.List.{at_drop_more}
+use Rattle.std.proofs.lemmas.List.{at_drop_more, append-nil}
 use Rattle.forest.specs.declared.space.Space.{Space}
 use Rattle.forest.specs.declared.fault.Reason.TheVariants.{UnlawfulTable}
 use Rattle.forest.specs.Faults.{faulted}
@@ -59,6 +59,16 @@ holds_more a b c xs ys p q =
       text = q.text ∙ p.text;
       space = q.space ∙ ap (λ s. less s (record { trees = length ys; children = 0; bytes = 0 })) p.space ∙ less-less a.space (length xs) (length ys) ∙ ap (λ n. less a.space (record { trees = n; children = 0; bytes = 0 })) (sym long);
     }
+
+less_none : (s : Space) → s ≡ less s (record { trees = 0; children = 0; bytes = 0 })
+less_none s =
+    let x : s.trees ≡ s.trees - 0 = omega arith in
+    let y : s.children ≡ s.children - 0 = omega arith in
+    let z : s.bytes ≡ s.bytes - 0 = omega arith in
+    ap (λ n. record { trees = n; children = s.children; bytes = s.bytes }) x ∙ ap (λ n. record { trees = s.trees - 0; children = n; bytes = s.bytes }) y ∙ ap (λ n. record { trees = s.trees - 0; children = s.children - 0; bytes = n }) z
+
+pub holds-none : (a : Arena) → Holds a [] a
+holds-none a = record { base = refl; rows = sym (append-nil (vec_items a.rows)); long = omega arith; children = refl; text = refl; space = less_none a.space }
 
 -- a row is judged alike at row n, in the arena b that a became
 judged : (a b : Arena) (r : RawRow) (n : ℕ) → b.base + vec_len b.rows ≡ n → b.children ≡ a.children → b.text ≡ a.text → row_lawful n (vec_items a.children) (vec_items a.text) r ≡ row_lawful (b.base + vec_len b.rows) (vec_items b.children) (vec_items b.text) r

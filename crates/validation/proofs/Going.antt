@@ -18,7 +18,6 @@ use Rattle.positions.specs.Below.{FreeBelow}
 use Rattle.positions.specs.Built.{types_of, Built, ends_at}
 use Rattle.positions.proofs.Closing.{ends_is}
 use Rattle.positions.proofs.Reading.{At, at_start, at_item, next-within, next_small, read_next, next-read}
-use Rattle.positions.proofs.Settled.{built_of}
 use Rattle.validation.specs.Walking.{OneWayTypes, SuitsItem, Stepped, over, no_row, outside}
 use Rattle.validation.proofs.Heading.{heads, headed, takes, inside}
 
@@ -46,7 +45,7 @@ module _ (p : Positions) (one_way : OneWayTypes p) (root : ℕ) (r : Root (types
   law = table-lawful p.types
 
   built : Built p
-  built = built_of p
+  built = one_way.built
 
   small : root < 512
   small = root_small p root r
@@ -72,7 +71,7 @@ module _ (p : Positions) (one_way : OneWayTypes p) (root : ℕ) (r : Root (types
   pub walk_on : {w : Forest} {at next : ℕ} (i : Item) (f : Forest) → legal i ≡ true → Walking p root w (before i f) at → Stepped p at i (Some next) → Walking p root w f next
   walk_on {w} i f l k (over {m} e s b) =
       let x = next_of i k.at s in
-      let z = past one_way (good k.at) k.stands x (takes i f l (heads i f s.fits) b) in
+      let z = past one_way.checked (good k.at) k.stands x (takes i f l (heads i f s.fits) b) in
       subst (Walking p root w f) (sym e)
       record {
         q = behind root m;
@@ -85,20 +84,20 @@ module _ (p : Positions) (one_way : OneWayTypes p) (root : ℕ) (r : Root (types
 
   -- no item row takes the next item
   refused : {q : Place} {left : List ℕ} (i : Item) (f : Forest) → Stands (types_of p) q left → ((m : ℕ) → Next (types_of p) q m → Takes (types_of p) m (before i f) f → ⊥) → Owed (types_of p) left (before i f) → ⊥
-  refused (scalar s) f st no_one d = leaf-refused one_way st no_one d
-  refused (element t x) f st no_one d = node-refused one_way st no_one d
+  refused (scalar s) f st no_one d = leaf-refused one_way.checked st no_one d
+  refused (element t x) f st no_one d = node-refused one_way.checked st no_one d
 
   pub walk_stuck : {w : Forest} {at : ℕ} (i : Item) (f : Forest) → Walking p root w (before i f) at → Stepped p at i None → Belongs (types_of p) root w → ⊥
   walk_stuck i f k (no_row no_one) y = refused i f k.stands (λ m x t. no_one m (suits_of i f k.at x (takes_heads t))) (k.there y)
   walk_stuck i f k (outside {m} {c} s e not_inside) y =
       refused i f k.stands
       (λ n x t.
-      let same = one-heads one_way (good k.at) k.stands (next_of i k.at s) x (heads i f s.fits) (takes_heads t) in
+      let same = one-heads one_way.checked (good k.at) k.stands (next_of i k.at s) x (heads i f s.fits) (takes_heads t) in
       not_inside (inside i f t (sym (ap (λ z. content (row (types_of p) z)) same) ∙ e)))
       (k.there y)
 
   walk_end : {w : Forest} {at : ℕ} → Walking p root w none at → Exactly (ends_at p root at) (Belongs (types_of p) root w)
-  walk_end k = (λ t. k.back (ends-owed one_way k.stands ((ends_is p built small k.at).0 t)), λ y. (ends_is p built small k.at).1 (owed_ends one_way k.stands (k.there y)))
+  walk_end k = (λ t. k.back (ends-owed one_way.checked k.stands ((ends_is p built small k.at).0 t)), λ y. (ends_is p built small k.at).1 (owed_ends one_way.checked k.stands (k.there y)))
 
   -- nothing of a list is left
   pub walk_over : {w : Forest} {at : ℕ} (is : List Item) (n : ℕ) → length is ≤ n → Walking p root w (forest (drop n is)) at → Exactly (ends_at p root at) (Belongs (types_of p) root w)

@@ -10,12 +10,13 @@ use Rattle.types.specs.Belonging.{Belongs}
 use Rattle.types.specs.Determinism.{label}
 use Rattle.types.specs.Places.{Checked}
 use Rattle.positions.specs.declared.tables.Positions.{Positions}
-use Rattle.positions.specs.Built.{types_of}
+use Rattle.positions.specs.Built.{types_of, Built}
 use Rattle.validation.specs.Matching.{suits}
 
--- contents are roots, and every root is one-way
-abbrev pub OneWayTypes : Positions → Type 0
-OneWayTypes p = Checked (types_of p) (length (types_of p))
+-- the tables are right, contents are roots, and every root is one-way
+pub record OneWayTypes (p : Positions) : Type 0 where
+  pub built : Built p
+  pub checked : Checked (types_of p) (length (types_of p))
 
 -- what is marked holds: the children of tree h belong to row c
 abbrev pub Known : List TypeRow → List Item → List ℕ → Type 0

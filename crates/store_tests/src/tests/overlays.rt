@@ -123,6 +123,21 @@ fn check_element_above<S: Store>(rt: &impl Abort, store: &mut S) {
     check_full(rt, store, 6);
 }
 
+/// Makes an Integer in an overlay over two events, renews the overlay, and checks an element above both.
+fn check_renewed(rt: &impl Abort, alloc: Global, mut lower: Overlay<Capture>) -> Result<(), Fail> {
+    let _made = make(&mut lower, Making::Integer);
+    let space = Space {
+        trees: 1,
+        children: 2,
+        bytes: 0,
+    };
+    let mut store = lower
+        .renew(alloc, space)
+        .map_err(|_lower| Failure::OutOfMemory)?;
+    check_element_above(rt, &mut store);
+    Ok(())
+}
+
 #[test]
 fn allowances_are_cut(rt: HostRuntime) -> Result<(), Fail> {
     check_makings(
@@ -202,16 +217,26 @@ fn overlay_stands_over_an_overlay(rt: HostRuntime) -> Result<(), Fail> {
 
 #[test]
 fn renewed_overlay_stands_as_over_itself(rt: HostRuntime) -> Result<(), Fail> {
-    let mut lower = open_over_events(rt.alloc(), [9, 9, 9])?;
-    let _made = make(&mut lower, Making::Integer);
+    let lower = open_over_events(rt.alloc(), [9, 9, 9])?;
+    check_renewed(&rt, rt.alloc(), lower)
+}
+
+#[test]
+fn overlay_with_no_room_left_is_renewed(rt: HostRuntime) -> Result<(), Fail> {
+    let lower = open_over_events(rt.alloc(), [1, 0, 0])?;
+    check_renewed(&rt, rt.alloc(), lower)
+}
+
+#[test]
+fn overlay_opened_with_room_is_renewed(rt: HostRuntime) -> Result<(), Fail> {
+    let below = Capture::load(rt.alloc(), TWO_EVENTS)?;
     let space = Space {
         trees: 1,
-        children: 2,
+        children: 0,
         bytes: 0,
     };
-    let mut store = lower
-        .renew(rt.alloc(), space)
-        .map_err(|_lower| Failure::OutOfMemory)?;
-    check_element_above(&rt, &mut store);
-    Ok(())
+    let lower = Overlay::open_with_room(rt.alloc(), below, space, 1).map_err(
+        |_below| Failure::OutOfMemory,
+    )?;
+    check_renewed(&rt, rt.alloc(), lower)
 }

@@ -16,5 +16,5 @@ returns-then-not-there c = rw c.refusal-then-not-there.ensures (not_there (c.in_
 pub returns-in-Some-first_ambiguous : goal.returns-in-Some-first_ambiguous
 returns-in-Some-first_ambiguous c =
     let ts = rows_of c.args.types in
-    let lowest = subst (λ (t : TypeRows). Lowest c.first_ambiguous.result (rows_of t) (OneWay (rows_of t))) c.of-positions.ensures.types c.first_ambiguous.ensures in
+    let lowest = subst (λ (t : TypeRows). Lowest c.first_ambiguous.result (rows_of t) (OneWay (rows_of t))) c.of-positions.ensures.types (c.first_ambiguous.ensures c.of-positions.ensures.built) in
     rw c.refusal-in-Some-first_ambiguous.ensures (not_one_way (c.in_default.ensures) c.if-not-there.false (subst (λ (o : Option ℕ). Lowest o ts (OneWay ts)) c.in-Some-first_ambiguous.is lowest))

@@ -15,7 +15,7 @@ loop-place-init c =
     record {
       numbered = cc;
       descending = descend_start (table-lawful c.args.types.now) c.args.end false (λ r. true) (left_gift c.args.alive.now.marks) c.all-live.result.marks
-          (iter_rest (enumerate_source (rev_source c.into_iter-place-iterator.result))) c.as_slice.result.now c.as_slice.ensures.rows (cc) c.requires.within marked;
+          (iter_rest (enumerate_source (rev_source c.into_iter-place-iterator.result))) c.as_slice.result.now c.as_slice.ensures.rows (cc) c.requires marked;
     }
 
 pub loop-place-preserved : goal.loop-place-preserved
@@ -31,14 +31,14 @@ loop-place-preserved c =
     let is : c.give.new.self.marks ≡ given w (left_gift v w (flag live c.in-Some.place)) (flag live c.in-Some.place) live = cc in
     record {
       numbered = step.0 ∙ numbered;
-      descending = descend_more (table-lawful c.args.types.now) c.args.end false (λ r. true) (left_gift v) live before after w c.in-Some.place c.requires.within c.loop-place.live.long
+      descending = descend_more (table-lawful c.args.types.now) c.args.end false (λ r. true) (left_gift v) live before after w c.in-Some.place c.requires c.loop-place.live.long
           step.1.0 k is c.loop-place.invariant.descending;
     }
 
 pub returns : goal.returns
-returns c =
+returns c right =
     let v = c.args.alive.now.marks in
     let live = c.loop-place.live.marks in
     let left = iter_rest (enumerate_source (rev_source c.loop-place.place-iterator)) in
-    all_left (table-lawful c.args.types.now) v c.requires.alive c.args.end live c.requires.within
+    all_left (table-lawful c.args.types.now) v right c.args.end live c.requires
     (descend_end (table-lawful c.args.types.now) c.args.end false (λ r. true) (left_gift v) live left c.in-None.ensures.steps.1.0 c.loop-place.invariant.descending)

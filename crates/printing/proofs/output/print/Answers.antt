@@ -1,7 +1,7 @@
 use Rattle.std.proofs.Common.{◌≡◌, ◌≤◌, true, false, ltb, map, length, Err, refl, rules}
 use Rattle.printing.specs.Items.{printed_at}
 use Rattle.printing.specs.Printed.{joined}
-use Rattle.printing.specs.Writing.{Adds}
+use Rattle.printing.specs.Writing.{Adds, failure_of}
 use Rattle.forest.specs.Forests.{depth, forest}
 use Rattle.forest.specs.Stores.{all_below, picked}
 use Rattle.printing.proofs.Placing.{prints_fits, prints_short}
@@ -15,7 +15,7 @@ returns-in_err-write_forest g c =
     let there : true ≡ all_below (length ts) hs = search rules in
     let flat : false ≡ ltb 64 (depth (forest (picked ts hs))) = search rules in
     let e = c.in_err-write_forest.field-0.0 in
-    let failed : c.from_residual-in_err-write_forest.result ≡ Err e = search rules in
+    let failed : c.from_residual-in_err-write_forest.result ≡ Err (failure_of e) = search rules in
     let refused : Adds c.write_forest.result c.new-printer.result.text c.write_forest.new.self.text (joined (map (printed_at ts) hs)) = search rules in
     prints_short ts hs buffer there flat c.write_forest.result _ e c.new-printer.result.text c.write_forest.new.self.text c.in_err-write_forest.was failed (search rules) (search rules) refused
 

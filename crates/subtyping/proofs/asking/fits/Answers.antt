@@ -26,7 +26,7 @@ returns-clause-answer c =
     let there = c.are_there-there.ensures in
     let asked = asked_for (known there) c.in_ok-positions.ensures.askable in
     let Told : TypeRows → Type 0 = λ t. c.args.row < length (rows_of t) → Root (rows_of t) c.args.root → (declared : ℕ) → Checked (rows_of t) declared → c.args.root < declared → Exactly c.is_subtype.result (Subtype (rows_of t) c.args.row c.args.root) in
-    let told = subst Told c.in_ok-positions.ensures.types c.is_subtype.ensures in
+    let told = subst Told c.in_ok-positions.ensures.types (c.is_subtype.ensures c.in_ok-positions.ensures.built) in
     (asked, told asked.there.0 asked.there.1 (length ts) (asked_checked c.args.types asked) asked.there.1.there)
 
 pub returns-clause-worked : goal.returns-clause-worked

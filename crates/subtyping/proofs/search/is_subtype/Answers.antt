@@ -1,8 +1,7 @@
-use Rattle.positions.proofs.Settled.{built_of}
 use Rattle.subtyping.proofs.Meaning.{verdict_exact}
 use Rattle.subtyping.proofs.search.is_subtype.Goals as goal
 
 pub returns : goal.returns
-returns c = λ low root declared checked less.
-    verdict_exact c.args.positions.now c.up_to-local.result c.args.row (built_of c.args.positions.now) (c.up_to-local.ensures low) low
+returns c = λ built low root declared checked less.
+    verdict_exact c.args.positions.now c.up_to-local.result c.args.row built (c.up_to-local.ensures built low) low
     c.args.root declared checked less root c.passes.ensures

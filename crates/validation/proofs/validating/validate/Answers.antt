@@ -10,7 +10,10 @@ use Rattle.validation.proofs.validating.validate.Goals as goal
 
 pub judge-requires-clause-one_way : goal.judge-requires-clause-one_way
 judge-requires-clause-one_way g c =
-    subst (λ (t : TypeRows). Checked (rows_of t) (length (rows_of t))) (sym c.in-Ok.ensures.types) (asked_checked c.args.types c.in-Ok.ensures.askable)
+    record {
+      built = c.in-Ok.ensures.built;
+      checked = subst (λ (t : TypeRows). Checked (rows_of t) (length (rows_of t))) (sym c.in-Ok.ensures.types) (asked_checked c.args.types c.in-Ok.ensures.askable);
+    }
 
 pub returns-in-Err : goal.returns-in-Err
 returns-in-Err g c = by_types (refused_for (known c.is_root.ensures) (shown c.is_root.ensures) c.in-Err.ensures)

@@ -17,7 +17,7 @@ lowest ts P n None low high m = λ k l. m k (omega arith) (omega arith) l
 lowest ts P n (Some i) low high m = let b = m.1 in record { there = omega arith; fails = m.2 (omega arith); before = λ k l. m.3 k (omega arith) l (omega arith) }
 
 pub returns : goal.returns
-returns c =
+returns c b =
     let ts = types_of c.args.self.now in
     let long = table-long c.args.self.now.types in
     let P : ℕ → Type 0 = λ n. Root ts n → Deterministic ts n in

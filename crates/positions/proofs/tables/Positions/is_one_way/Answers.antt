@@ -1,14 +1,12 @@
 use Rattle.std.proofs.Common.{T, sym, ◌∙◌, subst}
 use Rattle.std.proofs.lemmas.Bool.{both_ways, le-ltb}
 use Rattle.positions.proofs.OneWay.{one_way_of, items_of}
-use Rattle.positions.proofs.Settled.{built_of}
 use Rattle.positions.proofs.tables.Positions.is_one_way.Goals as goal
 use Rattle.positions.proofs.tables.Positions.is_one_way.Goals.{then-root-self, else-root-self}
 
 pub returns-then-is_clear : goal.returns-then-is_clear
-returns-then-is_clear c x =
+returns-then-is_clear c b x =
     let p = c.args.self.now in
-    let b = built_of p in
     let r = c.args.root in
     elim c.if-root-self.branch [
       | then-root-self w ↦ (

@@ -31,7 +31,7 @@ returns-then-is_subtype c =
     let Told : List TypeRow → Type 0 = λ us. a.row < length us → Root us a.root → (declared : ℕ) → Checked us declared → a.root < declared → Exactly c.is_subtype.result (Subtype us a.row a.root) in
     let long = table-long a.types.now a.counts.now c.requires.long in
     let there : a.row < length ts = omega (arith, c.requires.there) in
-    let exact = subst Told e c.is_subtype.ensures there c.requires.root.root a.counts.now.declared c.requires.checked c.requires.root.low in
+    let exact = subst Told e (c.is_subtype.ensures c.of.ensures.built) there c.requires.root.root a.counts.now.declared c.requires.checked c.requires.root.low in
     known exact c.if-is_subtype.true
 
 pub returns-else-is_subtype : goal.returns-else-is_subtype
@@ -43,5 +43,5 @@ returns-else-is_subtype c =
     let Told : List TypeRow → Type 0 = λ us. a.row < length us → Root us a.root → (declared : ℕ) → Checked us declared → a.root < declared → Exactly c.is_subtype.result (Subtype us a.row a.root) in
     let long = table-long a.types.now a.counts.now c.requires.long in
     let there : a.row < length ts = omega (arith, c.requires.there) in
-    let exact = subst Told e c.is_subtype.ensures there c.requires.root.root a.counts.now.declared c.requires.checked c.requires.root.low in
+    let exact = subst Told e (c.is_subtype.ensures c.of.ensures.built) there c.requires.root.root a.counts.now.declared c.requires.checked c.requires.root.low in
     (λ h. both_ways c.is_subtype.result c.if-is_subtype.false (shown exact h), c.fault.ensures)

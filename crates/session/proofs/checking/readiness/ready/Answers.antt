@@ -31,7 +31,7 @@ returns-in-Some-first_unrooted_target c = rw c.refusal-in-Some-first_unrooted_ta
 pub returns-in-Some-first_ambiguous : goal.returns-in-Some-first_ambiguous
 returns-in-Some-first_ambiguous c =
     let ts = rows_of c.args.types in
-    let lowest = subst (λ (t : TypeRows). Lowest c.first_ambiguous.result (rows_of t) (OneWay (rows_of t))) c.of.ensures.types c.first_ambiguous.ensures in
+    let lowest = subst (λ (t : TypeRows). Lowest c.first_ambiguous.result (rows_of t) (OneWay (rows_of t))) c.of.ensures.types (c.first_ambiguous.ensures c.of.ensures.built) in
     rw c.refusal-in-Some-first_ambiguous.ensures
     (not_one_way c.in-Some.is c.in_default-first_bodiless.ensures c.in_default-first_unrooted.ensures c.in_default-first_unrooted_function.ensures (known c.is_root.ensures c.if-not-is_root.false) c.in_default-first_unrooted_target.ensures
     (subst (λ (o : Option ℕ). Lowest o ts (OneWay ts)) c.in-Some-first_ambiguous.is lowest))

@@ -7,4 +7,4 @@ pub invariant_of-self-clause-functions_known : goal.invariant_of-self-clause-fun
 invariant_of-self-clause-functions_known c =
     let p = c.args.self.now in
     let n = length p.expressions.items in
-    ap (functions_lawful n) c.set_body.ensures ∙ functions-set n p.functions.rows.items c.args.function c.args.row p.functions_known c.requires.function (lt-ltb c.args.row n c.requires.row)
+    ap (functions_lawful n) c.set_body.ensures ∙ functions-set n p.functions.rows.items c.args.function c.args.row p.functions_known (lt-ltb c.args.row n c.requires.row)

@@ -1,7 +1,7 @@
 use Rattle.std.proofs.Common.{ap, rules}
 use Rattle.forest.specs.Forests.{bytes_lawful}
 use Rattle.arena.specs.Rows.{built, sound}
-use Rattle.arena.proofs.arena.Arena.open.Goals as goal
+use Rattle.arena.proofs.arena.Arena.open_with_room.Goals as goal
 
 -- an arena with no rows is sound, and has just the trees below
 pub invariant_of-result-clause-good : goal.invariant_of-result-clause-good
@@ -11,9 +11,9 @@ invariant_of-result-clause-good c = ap (sound _ _ _) c.in_ok-with_capacity.ensur
 pub invariant_of-result-clause-bytes : goal.invariant_of-result-clause-bytes
 invariant_of-result-clause-bytes c = ap bytes_lawful c.in_ok-with_capacity-3.ensures.items
 
-pub returns : goal.returns
+pub returns-clause-opened : goal.returns-clause-opened
 unfolding built
-returns c =
+returns-clause-opened c =
     let none = c.in_ok-with_capacity.ensures.items in
     record {
       base = search rules;
