@@ -16,5 +16,4 @@ pub use counts::Counts;
 pub use function_table::FunctionTable;
 pub use program::Program;
 pub use session::{Phase, Session};
-pub use table::Table;
 pub use type_table::TypeTable;

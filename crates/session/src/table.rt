@@ -7,7 +7,7 @@ use std::marker::Model;
 /// At most `N` rows, which lie in place. Behind those that are there may lie old ones, where nothing can reach them: so a table is
 /// cleared by its count alone.
 #[derive(Drop)]
-pub struct Table<T, const N: usize> {
+pub(crate) struct Table<T, const N: usize> {
     rows: [T; N],
     count: usize,
 }
@@ -27,7 +27,7 @@ impl<T, const N: usize> Model for Table<T, N> {
 
 impl<T: Copy + Default, const N: usize> Table<T, N> {
     /// A table with no rows.
-    pub fn new() -> Self
+    pub(crate) fn new() -> Self
         ensures { result.items ≡ [] }
     {
         Table {
@@ -39,7 +39,7 @@ impl<T: Copy + Default, const N: usize> Table<T, N> {
 
 impl<T: Copy, const N: usize> Table<T, N> {
     /// The number of rows.
-    pub fn len(&self) -> usize
+    pub(crate) fn len(&self) -> usize
         ensures value { result ≡ length self.now.items }
         ensures fits { result ≤ N }
     {
@@ -47,7 +47,7 @@ impl<T: Copy, const N: usize> Table<T, N> {
     }
 
     /// The rows.
-    pub fn as_slice(&self) -> &[T]
+    pub(crate) fn as_slice(&self) -> &[T]
         ensures value { result.now ≡ self.now.items }
         ensures fits { length result.now ≤ N }
     {
@@ -55,14 +55,14 @@ impl<T: Copy, const N: usize> Table<T, N> {
     }
 
     /// The row at a place, if it is there.
-    pub fn get(&self, place: usize) -> Option<T>
+    pub(crate) fn get(&self, place: usize) -> Option<T>
         ensures { result ≡ slice_get self.now.items place }
     {
         self.as_slice().get(place).copied()
     }
 
     /// One row more.
-    pub fn push(&mut self, row: T)
+    pub(crate) fn push(&mut self, row: T)
         requires { length self.old.items < N }
         ensures items { self.new.items ≡ self.old.items ++ (row ∷ []) }
         ensures len { length self.new.items ≡ length self.old.items + 1 }
@@ -72,7 +72,7 @@ impl<T: Copy, const N: usize> Table<T, N> {
     }
 
     /// Another row at a place; every other row stays.
-    pub fn set(&mut self, place: usize, row: T)
+    pub(crate) fn set(&mut self, place: usize, row: T)
         requires { place < length self.old.items }
         ensures { self.new.items ≡ slice_set self.old.items place row }
     {
@@ -81,7 +81,7 @@ impl<T: Copy, const N: usize> Table<T, N> {
     }
 
     /// More rows behind the others, if there is room for all of them.
-    pub fn try_extend_from_slice(&mut self, more: &[T]) -> Result<(), CapacityError>
+    pub(crate) fn try_extend_from_slice(&mut self, more: &[T]) -> Result<(), CapacityError>
         ensures variant { IsOk result ↔ (length self.old.items + length more.now ≤ N) }
         ensures ok { OnOk result (self.new.items ≡ self.old.items ++ more.now) }
         ensures len { OnOk result (length self.new.items ≡ length self.old.items + length more.now) }
@@ -98,7 +98,7 @@ impl<T: Copy, const N: usize> Table<T, N> {
     }
 
     /// Takes all rows away: the count alone goes to 0.
-    pub fn clear(&mut self)
+    pub(crate) fn clear(&mut self)
         ensures { self.new.items ≡ [] }
     {
         self.count = 0;
