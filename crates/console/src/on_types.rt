@@ -15,7 +15,7 @@ use std::alloc::Global;
 use subtyping::fits;
 
 /// Performs a call on the declared types of a session, which changes nothing. Input to be validated is of the store.
-// Never inlined: the tables of a walk over types take some 230 KiB of stack, which each line of a script, whatever it asks, would take.
+// Never inlined: the tables of a question about types take some 230 KB of stack, which each line of a script, whatever it asks, would take.
 #[inline(never)]
 pub fn perform_on_types(alloc: Global, session: &Session, probe: &Probe, call: &TypeCall) -> Answer
     ensures { Told (asked_types call.now) (tables session.now).types (state probe.now).meaning.trees (said result) }

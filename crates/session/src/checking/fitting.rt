@@ -13,7 +13,7 @@ use types::TypeRows;
 use typing::TypeFault;
 
 /// Refuses a row that does not fit a declared root.
-// Never inlined: its tables take some 400 KiB of stack, which the functions that type rows, calling themselves, would take each time.
+// Never inlined: its tables take some 230 KB of stack, which the functions that type rows, calling themselves, would take each time.
 #[inline(never)]
 pub(crate) fn fit(
     types: &[TypeRow],
